@@ -1,0 +1,2 @@
+// A keeper that answers lines.
+pub mod answer;

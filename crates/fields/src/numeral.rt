@@ -1,0 +1,28 @@
+// Numbers in decimal digits.
+ghost use mathlib.Core.Path.{_≡_};
+ghost use Prim.Native.Nat.{_^_, min};
+ghost use Rattle.std.specs.Options.{Cases};
+ghost use Rattle.fields.specs.Numerals.{Numeral, number};
+
+// Far above every number of a line: a greater one, however long, is read as this one.
+pub const CAP: u64 = 1 << 50;
+
+// The number that a field writes; none where the field is no number.
+pub fn number_of(field: &[u8]) -> Option<u64>
+    ensures { λ r. ⌜ Cases r (Numeral (now (field .entry)) → ⊥) (λ n. Numeral (now (field .entry)) × (n ≡ min (number (now (field .entry))) (2 ^ 50))) ⌝ }
+{
+    if field.len() == 0 {
+        return None;
+    }
+    if field[0] == b'0' && field.len() > 1 {
+        return None;
+    }
+    let mut n: u64 = 0;
+    for b in field {
+        if *b < b'0' || *b > b'9' {
+            return None;
+        }
+        n = (n * 10 + (*b - b'0') as u64).min(CAP);
+    }
+    Some(n)
+}

@@ -1,0 +1,2 @@
+// The kinds of value that registers hold.
+pub mod meter;

@@ -1,0 +1,5 @@
+pub mod Bodies
+pub mod Written
+pub mod Same
+pub mod Whole
+pub mod Opens

@@ -1,0 +1,5 @@
+pub mod Refusals
+pub mod Groups
+pub mod Rounds
+pub mod Records
+pub mod Stores
