@@ -3,3 +3,4 @@ pub mod Written
 pub mod Same
 pub mod Whole
 pub mod Opens
+pub mod Lengths

@@ -103,7 +103,7 @@ module _ {V : Type 0} (value : Form) (items : V → List Item) (fits : (v : V) �
   )
   body-fits (body.Voted k n) = (in-range 0 6 (k .id) (omega arith) (k .within) (omega arith), (in-range 1 (2 ^ 40) (n .n) (n .from) (n .within) (omega arith), tt))
 
-  message-fits : (m : Message V) → Fit (message-form value (kind-of (m .body))) (message-items items m)
+  pub message-fits : (m : Message V) → Fit (message-form value (kind-of (m .body))) (message-items items m)
   message-fits m = fit-join head-form (λ h. body-form value (kind-of (m .body))) (head-items (m .head)) (body-items items (m .body)) (head-fits (m .head)) (body-fits (m .body))
 
   -- a fault is in no line of a message

@@ -1,6 +1,5 @@
 // A meter is one number, its total.
-ghost use mathlib.Core.List.{[], _∷_};
-ghost use Rattle.fields.specs.Forms.{one, range, num};
+ghost use Rattle.texts.specs.Meters.{meter-form, meter-items};
 use crate::text::Text;
 use fields::buffer::Buffer;
 use fields::fault::Fault;
@@ -10,9 +9,9 @@ use kinds::meter::rules::MOST_TOTAL;
 use kinds::meter::rules::MeterKind;
 
 pub impl Text for Meter as MeterText {
-    ghost form = { one (range 0 4000000000) };
+    ghost form = { meter-form };
 
-    ghost items = { λ meter. num (meter .total) ∷ [] };
+    ghost items = { meter-items };
 
     fn read(reader: &mut Reader) -> Result<Meter, Fault> {
         let total = reader.number(0, MOST_TOTAL as u64)?;
