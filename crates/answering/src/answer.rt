@@ -14,7 +14,7 @@ use protocol::store::Store;
 use texts::text::Text;
 
 // The line `X`, with the number of the reason.
-pub fn write_refusal(reason: Reason, buffer: &mut Buffer)
+fn write_refusal(reason: Reason, buffer: &mut Buffer)
     ensures { λ _. ⌜ Filled (refusal-line (number-of reason)) (now (buffer .exit)) ⌝ }
 {
     buffer.clear();
@@ -24,7 +24,7 @@ pub fn write_refusal(reason: Reason, buffer: &mut Buffer)
 }
 
 // The line of the reply; where that is longer than any line, a refusal in its place.
-pub fn write_reply<T: Text>(reply: &Message<T>, buffer: &mut Buffer)
+fn write_reply<T: Text>(reply: &Message<T>, buffer: &mut Buffer)
     ensures { λ _. ⌜ Replied (line-of (T·Text .items) (now (reply .entry))) (now (buffer .exit)) ⌝ }
 {
     buffer.clear();

@@ -73,23 +73,23 @@ module _ (p q : Reader) (form : Form) (after : List Item → Form) (is : List It
     fit = fit-join form after is js (g .fit) (h .fit);
   }
 
-  pub went-fault : (e : Fault) → Went p q form is → FaultAt q (after is) e → FaultAt p (form ▷ after) e
-  went-fault e g h = record { there = fault-past form after is (rest p) (rest q) (p .at) e (g .there) (ends-rest q) (g .fit) (subst (λ k. FaultIn (after is) (rest q) k e) (g .on) (h .there)) }
+  pub went-fault : (r : Reader) (e : Fault) → Went p q form is → FaultAt q r (after is) e → FaultAt p r (form ▷ after) e
+  went-fault r e g h = record { there = fault-past form after is (rest p) (rest q) (p .at) e (g .there) (ends-rest q) (g .fit) (subst (λ k. FaultIn (after is) (rest q) k e) (g .on) (h .there)); same-line = h .same-line ∙ g .same-line; in-front = h .in-front }
 
-pub front-fault : (p : Reader) (form : Form) (after : List Item → Form) (e : Fault) → FaultAt p form e → FaultAt p (form ▷ after) e
-front-fault p form after e h = record { there = fault-front form after (rest p) (p .at) e (h .there) }
+pub front-fault : (p q : Reader) (form : Form) (after : List Item → Form) (e : Fault) → FaultAt p q form e → FaultAt p q (form ▷ after) e
+front-fault p q form after e h = record { there = fault-front form after (rest p) (p .at) e (h .there); same-line = h .same-line; in-front = h .in-front }
 
 -- the exit of a `?`
-pub exit : {X : Type 0} (form : Form) (items : X → List Item) (p q : Reader) (r : Result X Fault) (e : Fault) → ErrBy r (λ y. y ≡ e) → FaultAt p form e → Reading form items p q r
+pub exit : {X : Type 0} (form : Form) (items : X → List Item) (p q : Reader) (r : Result X Fault) (e : Fault) → ErrBy r (λ y. y ≡ e) → FaultAt p q form e → Reading form items p q r
 exit form items p q (Ok x) e h f = absurd h
-exit form items p q (Err y) e h f = subst (λ x. FaultAt p form x) (sym h) f
+exit form items p q (Err y) e h f = subst (λ x. FaultAt p q form x) (sym h) f
 
 -- the same where what follows does not depend on the first fields
 pub then-went : (p q r : Reader) (form more : Form) (is js : List Item) → Went p q form is → Went q r more js → Went p r (form ▷ (λ l. more)) (is ++ js)
 then-went p q r form more is js g h = went-join p q form (λ l. more) is r js g h
 
-pub then-fault : (p q : Reader) (form more : Form) (is : List Item) (e : Fault) → Went p q form is → FaultAt q more e → FaultAt p (form ▷ (λ l. more)) e
-then-fault p q form more is e g h = went-fault p q form (λ l. more) is e g h
+pub then-fault : (p q r : Reader) (form more : Form) (is : List Item) (e : Fault) → Went p q form is → FaultAt q r more e → FaultAt p r (form ▷ (λ l. more)) e
+then-fault p q r form more is e g h = went-fault p q form (λ l. more) is r e g h
 
-pub first-fault : (p : Reader) (form more : Form) (e : Fault) → FaultAt p form e → FaultAt p (form ▷ (λ l. more)) e
-first-fault p form more e h = front-fault p form (λ l. more) e h
+pub first-fault : (p q : Reader) (form more : Form) (e : Fault) → FaultAt p q form e → FaultAt p q (form ▷ (λ l. more)) e
+first-fault p q form more e h = front-fault p q form (λ l. more) e h

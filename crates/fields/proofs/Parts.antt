@@ -60,20 +60,20 @@ module _ (p q : Reader) where
       let d : decimal n ≡ part .bytes .now = ap decimal (sym e) ∙ decimal-number (part .bytes .now) (h .says .0) (omega arith) in
       went-one (range lo hi) (num n) (Number n part) h d m
 
-  pub number-out : (lo hi n : ℕ) (part : Part) → Passed p q (Number n part) → (InRange lo hi n → ⊥) → FaultAt p (one (range lo hi)) (record { kind = Range; at = part .at })
+  pub number-out : (lo hi n : ℕ) (part : Part) → Passed p q (Number n part) → (InRange lo hi n → ⊥) → FaultAt p p (one (range lo hi)) (record { kind = Range; at = part .at })
   number-out lo hi n part h o =
       let outside : InRange lo hi (number (part .bytes .now)) → ⊥ = λ r. o (let e : n ≡ number (part .bytes .now) = omega (arith, h .says .1, r) in subst (InRange lo hi) (sym e) r) in
-      record { there = wrong (part .bytes .now) (rest q) (h .next) (out-of-range (h .says .0) outside) (h .offset) }
+      record { there = wrong (part .bytes .now) (rest q) (h .next) (out-of-range (h .says .0) outside) (h .offset); same-line = refl; in-front = h .offset }
 
-  pub no-number-at : (lo hi : ℕ) (t : Token) → Passed p q t → (Numeral (text t) → ⊥) → FaultAt p (one (range lo hi)) (record { kind = BadForm; at = part-of t .at })
-  no-number-at lo hi t h n = record { there = wrong (text t) (rest q) (h .next) (no-number n) (h .offset) }
+  pub no-number-at : (lo hi : ℕ) (t : Token) → Passed p q t → (Numeral (text t) → ⊥) → FaultAt p p (one (range lo hi)) (record { kind = BadForm; at = part-of t .at })
+  no-number-at lo hi t h n = record { there = wrong (text t) (rest q) (h .next) (no-number n) (h .offset); same-line = refl; in-front = h .offset }
 
   pub went-access : (b : ℕ) (part : Part) → Passed p q (Letter b part) → (b ≡ 114) ⊎ (b ≡ 119) → Went p q (one access) (letter b ∷ [])
   went-access b part h o = went-one access (letter b) (Letter b part) h (sym (h .says .0)) o
 
-  pub no-access-at : (t : Token) → Passed p q t → (text t ≡ 114 ∷ [] → ⊥) → (text t ≡ 119 ∷ [] → ⊥) → FaultAt p (one access) (record { kind = BadForm; at = part-of t .at })
-  no-access-at t h r w = record { there = wrong (text t) (rest q) (h .next) (no-access r w) (h .offset) }
+  pub no-access-at : (t : Token) → Passed p q t → (text t ≡ 114 ∷ [] → ⊥) → (text t ≡ 119 ∷ [] → ⊥) → FaultAt p p (one access) (record { kind = BadForm; at = part-of t .at })
+  no-access-at t h r w = record { there = wrong (text t) (rest q) (h .next) (no-access r w) (h .offset); same-line = refl; in-front = h .offset }
 
 -- the line feed comes where a field has to be
-pub none-left : (p : Reader) (s : Shape) (next : Item → Form) → getD (p .line .now) (p .at) 0 ≡ 10 → FaultAt p (field s next) (record { kind = Count; at = p .at })
-none-left p s next h = record { there = missing (ap (λ l. getD l 0 0) (drop-more (p .line .now) (p .at) 0 (p .within)) ∙ h) refl refl }
+pub none-left : (p : Reader) (s : Shape) (next : Item → Form) → getD (p .line .now) (p .at) 0 ≡ 10 → FaultAt p p (field s next) (record { kind = Count; at = p .at })
+none-left p s next h = record { there = missing (ap (λ l. getD l 0 0) (drop-more (p .line .now) (p .at) 0 (p .within)) ∙ h) refl refl; same-line = refl; in-front = refl }

@@ -10,7 +10,8 @@ use Rattle.std.specs.declared.result.Result.the-variants.{Ok, Err}
 use Rattle.protocol.specs.declared.message.Access.{Access}
 use Rattle.protocol.specs.declared.message.Access.the-variants.{Read, Write}
 use Rattle.fields.specs.declared.fault.Fault.{Fault}
-use Rattle.fields.specs.declared.fault.FaultKind.the-variants.{Frame, Count}
+use Rattle.fields.specs.declared.fault.FaultKind.{FaultKind}
+use Rattle.fields.specs.declared.fault.FaultKind.the-variants.{Frame, Letter, Count, Form as BadForm, Range}
 use Rattle.fields.specs.declared.reader.Reader.{Reader}
 use Rattle.fields.specs.declared.token.Token.{Token}
 use Rattle.fields.specs.Cuts.{Mark, Framed, Next}
@@ -42,14 +43,25 @@ pub record Went (p q : Reader) (form : Form) (is : List Item) : Type 0 where
   pub on : q .at ≡ p .at + length (written is)
   pub fit : Fit form is
 
--- the fields that a reader comes to have this fault
-pub record FaultAt (p : Reader) (form : Form) (e : Fault) : Type 0 where
+-- where a fault is, for a reader that stands in front of the field: a missing one would begin where the
+-- line feed is, any other begins behind its tab, and the faults of a whole line are at 0
+abbrev pub offset-of : FaultKind → ℕ → ℕ
+offset-of Count at = at
+offset-of BadForm at = at + 1
+offset-of Range at = at + 1
+offset-of Frame at = 0
+offset-of Letter at = 0
+
+-- the fields that the reader p came to have this fault, and q stands in front of the field
+pub record FaultAt (p q : Reader) (form : Form) (e : Fault) : Type 0 where
   pub there : FaultIn form (rest p) (p .at) e
+  pub same-line : q .line .now ≡ p .line .now
+  pub in-front : e .at ≡ offset-of (e .kind) (q .at)
 
 -- what a reader of a form answers: the value whose items stand there, or a fault that is there
 abbrev pub Reading : {X : Type 0} → Form → (X → List Item) → Reader → Reader → Result X Fault → Type 0
 Reading form items p q (Ok x) = Went p q form (items x)
-Reading form items p q (Err e) = FaultAt p form e
+Reading form items p q (Err e) = FaultAt p q form e
 
 -- r for a read, w for a write
 abbrev pub access-letter : Access → ℕ

@@ -8,7 +8,7 @@ ghost use Rattle.fields.specs.Numerals.{Numeral, number};
 pub const CAP: u64 = 1 << 50;
 
 // The number that a field writes; none where the field is no number.
-pub fn number_of(field: &[u8]) -> Option<u64>
+pub(crate) fn number_of(field: &[u8]) -> Option<u64>
     ensures { λ r. ⌜ Cases r (Numeral (now (field .entry)) → ⊥) (λ n. Numeral (now (field .entry)) × (n ≡ min (number (now (field .entry))) (2 ^ 50))) ⌝ }
 {
     if field.len() == 0 {

@@ -1,4 +1,5 @@
-// Reads the fields of a line one after another.
+// Reads the fields of a line one after another. A field that is at fault is not passed: the reader
+// then stands in front of it.
 ghost use mathlib.Core.List.{[], _∷_};
 ghost use Rattle.fields.specs.Forms.{one, range, access as access-shape, num};
 ghost use Rattle.fields.specs.Readers.{Steps, Reading, Ending, access-items};
@@ -13,7 +14,7 @@ use protocol::message::Access;
 
 impl<'a> Reader<'a> {
     // The next field, or none at the line feed.
-    pub fn next(&mut self) -> Option<Token<'a>>
+    pub(crate) fn next(&mut self) -> Option<Token<'a>>
         ensures { λ r. ⌜ Steps (now (self .entry)) (now (self .exit)) r ⌝ }
     {
         let line = self.line;
@@ -30,11 +31,11 @@ impl<'a> Reader<'a> {
     pub fn number(&mut self, low: u64, high: u64) -> Result<u64, Fault>
         ensures { λ r. ⌜ Reading (one (range low high)) (λ n. num n ∷ []) (now (self .entry)) (now (self .exit)) r ⌝ }
     {
-        let at = self.at;
-        let Some(token) = self.next() else {
+        let mut ahead = *self;
+        let Some(token) = ahead.next() else {
             return Err(Fault {
                 kind: FaultKind::Count,
-                at,
+                at: self.at,
             });
         };
         match token {
@@ -45,6 +46,7 @@ impl<'a> Reader<'a> {
                         at: part.at,
                     })
                 } else {
+                    *self = ahead;
                     Ok(n)
                 }
             }
@@ -63,17 +65,23 @@ impl<'a> Reader<'a> {
     pub fn access(&mut self) -> Result<Access, Fault>
         ensures { λ r. ⌜ Reading (one access-shape) access-items (now (self .entry)) (now (self .exit)) r ⌝ }
     {
-        let at = self.at;
-        let Some(token) = self.next() else {
+        let mut ahead = *self;
+        let Some(token) = ahead.next() else {
             return Err(Fault {
                 kind: FaultKind::Count,
-                at,
+                at: self.at,
             });
         };
         match token {
             Token::Letter(letter, part) => match letter {
-                b'r' => Ok(Access::Read),
-                b'w' => Ok(Access::Write),
+                b'r' => {
+                    *self = ahead;
+                    Ok(Access::Read)
+                }
+                b'w' => {
+                    *self = ahead;
+                    Ok(Access::Write)
+                }
                 _ => Err(Fault {
                     kind: FaultKind::Form,
                     at: part.at,

@@ -48,7 +48,7 @@ impl Buffer {
     }
 
     // The decimal digits of `n`.
-    pub fn digits(&mut self, n: u64)
+    pub(crate) fn digits(&mut self, n: u64)
         ensures { λ _. ⌜ Wrote (decimal n) (now (self .entry)) (now (self .exit)) ⌝ }
     {
         if n < 10 {

@@ -15,7 +15,7 @@ use protocol::record::Record;
 use protocol::round::Round;
 
 // Whether the message asks a keeper for anything: P, F and V do, A and D are replies.
-pub fn asks_a_keeper<V: Copy>(message: &Message<V>) -> bool
+pub(crate) fn asks_a_keeper<V: Copy>(message: &Message<V>) -> bool
     ensures { λ r. ⌜ r ≡ asks (now (message .entry) .body) ⌝ }
 {
     match message.body {
@@ -118,7 +118,7 @@ fn vote<V: Copy>(
 }
 
 // What a keeper does with a message. A and D are replies, and ask it for nothing.
-pub fn step<V: Copy>(keeper: KeeperId, record: &Record<V>, message: &Message<V>) -> Step<V>
+pub(crate) fn step<V: Copy>(keeper: KeeperId, record: &Record<V>, message: &Message<V>) -> Step<V>
     ensures { λ r. ⌜ r ≡ keeper-step keeper (now («record» .entry)) (now (message .entry)) ⌝ }
 {
     let head = message.head;

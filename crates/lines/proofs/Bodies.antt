@@ -34,6 +34,6 @@ pub went-as : (value : Form) (k j : MessageKind) (p q : Reader) (is : List Item)
 went-as value k j p q is e w = subst (λ i. Went p q (body-form value i) is) (sym e) w
 
 -- the exit of a `?`
-pub body-exit : {V : Type 0} (value : Form) (items : V → List Item) (k j : MessageKind) (p q : Reader) (r : Result (Body V) Fault) (e : Fault) → k ≡ j → ErrBy r (λ y. y ≡ e) → FaultAt p (body-form value j) e → BodyReading value items k p q r
+pub body-exit : {V : Type 0} (value : Form) (items : V → List Item) (k j : MessageKind) (p q : Reader) (r : Result (Body V) Fault) (e : Fault) → k ≡ j → ErrBy r (λ y. y ≡ e) → FaultAt p q (body-form value j) e → BodyReading value items k p q r
 body-exit value items k j p q (Ok b) e is h f = absurd h
-body-exit value items k j p q (Err y) e is h f = subst (λ x. FaultAt p (body-form value k) x) (sym h) (subst (λ i. FaultAt p (body-form value i) e) (sym is) f)
+body-exit value items k j p q (Err y) e is h f = subst (λ x. FaultAt p q (body-form value k) x) (sym h) (subst (λ i. FaultAt p q (body-form value i) e) (sym is) f)

@@ -54,8 +54,8 @@ module _ {V : Type 0} (value : Form) (items : V → List Item) (line f : List �
     behind : (line ≡ letter k ∷ rest p) × (p .at ≡ 1)
     behind = (o .split ∙ ap (λ g. g ++ rest p) named, o .on ∙ ap length named)
 
-    pub told-fault : (e : Fault) → FaultAt p (message-form value k) e → Faulty value line e
-    told-fault e h = field k (rest p) (behind .0) (subst (λ n. FaultIn (message-form value k) (rest p) n e) (behind .1) (h .there))
+    pub told-fault : (q : Reader) (e : Fault) → FaultAt p q (message-form value k) e → Faulty value line e
+    told-fault q e h = field k (rest p) (behind .0) (subst (λ n. FaultIn (message-form value k) (rest p) n e) (behind .1) (h .there))
 
     module _ (h : Head) (b : Body V) (q r : Reader) (w : Went p q head-form (head-items h)) (x : BodyReading value items k q r (Ok b)) where
       all-fields : Went p r (message-form value k) (head-items h ++ body-items items b)

@@ -75,7 +75,7 @@ body-items items (body.Voted k n) = num (k .id) ∷ num (n .n) ∷ []
 -- what reading the fields behind the head answers
 abbrev pub BodyReading : {V : Type 0} → Form → (V → List Item) → MessageKind → Reader → Reader → Result (Body V) Fault → Type 0
 BodyReading value items k p q (Ok b) = (kind-of b ≡ k) × Went p q (body-form value k) (body-items items b)
-BodyReading value items k p q (Err e) = FaultAt p (body-form value k) e
+BodyReading value items k p q (Err e) = FaultAt p q (body-form value k) e
 
 -- all fields behind the letter
 abbrev pub message-form : Form → MessageKind → Form

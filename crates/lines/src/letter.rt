@@ -17,7 +17,7 @@ pub enum MessageKind {
 }
 
 // The letter of a message.
-pub fn letter_of<V>(body: &Body<V>) -> u8
+pub(crate) fn letter_of<V>(body: &Body<V>) -> u8
     ensures { λ r. ⌜ r ≡ letter (kind-of (now (body .entry))) ⌝ }
 {
     match body {

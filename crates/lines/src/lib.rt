@@ -1,6 +1,6 @@
 // The five messages as lines.
 pub mod letter;
 pub mod line;
-pub mod reading;
+mod reading;
 pub mod theorems;
 pub mod writing;

@@ -14,7 +14,7 @@ use protocol::message::State;
 use protocol::round::Round;
 use texts::text::Text;
 
-pub fn read_head(reader: &mut Reader) -> Result<Head, Fault>
+pub(crate) fn read_head(reader: &mut Reader) -> Result<Head, Fault>
     ensures { λ r. ⌜ Reading head-form head-items (now (reader .entry)) (now (reader .exit)) r ⌝ }
 {
     let register = reader.number(0, 63)?;
@@ -27,7 +27,7 @@ pub fn read_head(reader: &mut Reader) -> Result<Head, Fault>
     })
 }
 
-pub fn read_round(reader: &mut Reader) -> Result<Round, Fault>
+pub(crate) fn read_round(reader: &mut Reader) -> Result<Round, Fault>
     ensures { λ r. ⌜ Reading round-form round-items (now (reader .entry)) (now (reader .exit)) r ⌝ }
 {
     let n = reader.number(0, TOP)?;
@@ -41,7 +41,7 @@ pub fn read_round(reader: &mut Reader) -> Result<Round, Fault>
 }
 
 // Raised is 0 or 1, and the promised number is at least that: from 1 where it was raised.
-pub fn read_promise(reader: &mut Reader) -> Result<Promise, Fault>
+pub(crate) fn read_promise(reader: &mut Reader) -> Result<Promise, Fault>
     ensures { λ r. ⌜ Reading promise-form promise-items (now (reader .entry)) (now (reader .exit)) r ⌝ }
 {
     let raised = reader.number(0, 1)?;
@@ -52,7 +52,7 @@ pub fn read_promise(reader: &mut Reader) -> Result<Promise, Fault>
     })
 }
 
-pub fn read_state<T: Text>(reader: &mut Reader) -> Result<State<T>, Fault>
+pub(crate) fn read_state<T: Text>(reader: &mut Reader) -> Result<State<T>, Fault>
     ensures { λ r. ⌜ Reading (state-form (T·Text .form)) (state-items (T·Text .items)) (now (reader .entry)) (now (reader .exit)) r ⌝ }
 {
     let keeper = reader.number(0, 6)?;
@@ -68,7 +68,7 @@ pub fn read_state<T: Text>(reader: &mut Reader) -> Result<State<T>, Fault>
 }
 
 // The fields of a message behind its head.
-pub fn read_body<T: Text>(kind: MessageKind, reader: &mut Reader) -> Result<Body<T>, Fault>
+pub(crate) fn read_body<T: Text>(kind: MessageKind, reader: &mut Reader) -> Result<Body<T>, Fault>
     ensures { λ r. ⌜ BodyReading (T·Text .form) (T·Text .items) kind (now (reader .entry)) (now (reader .exit)) r ⌝ }
 {
     match kind {

@@ -12,7 +12,7 @@ use protocol::message::State;
 use protocol::round::Round;
 use texts::text::Text;
 
-pub fn write_head(head: &Head, buffer: &mut Buffer)
+pub(crate) fn write_head(head: &Head, buffer: &mut Buffer)
     ensures { λ _. ⌜ Put (head-items (now (head .entry))) (now (buffer .entry)) (now (buffer .exit)) ⌝ }
 {
     buffer.number(head.register as u64);
@@ -20,7 +20,7 @@ pub fn write_head(head: &Head, buffer: &mut Buffer)
     buffer.number(head.attempt);
 }
 
-pub fn write_round(round: &Round, buffer: &mut Buffer)
+pub(crate) fn write_round(round: &Round, buffer: &mut Buffer)
     ensures { λ _. ⌜ Put (round-items (now (round .entry))) (now (buffer .entry)) (now (buffer .exit)) ⌝ }
 {
     buffer.number(round.n);
@@ -28,14 +28,14 @@ pub fn write_round(round: &Round, buffer: &mut Buffer)
     buffer.number(round.attempt);
 }
 
-pub fn write_promise(promise: &Promise, buffer: &mut Buffer)
+pub(crate) fn write_promise(promise: &Promise, buffer: &mut Buffer)
     ensures { λ _. ⌜ Put (promise-items (now (promise .entry))) (now (buffer .entry)) (now (buffer .exit)) ⌝ }
 {
     buffer.number(promise.raised as u64);
     buffer.number(promise.n);
 }
 
-pub fn write_state<T: Text>(state: &State<T>, buffer: &mut Buffer)
+pub(crate) fn write_state<T: Text>(state: &State<T>, buffer: &mut Buffer)
     ensures { λ _. ⌜ Put (state-items (T·Text .items) (now (state .entry))) (now (buffer .entry)) (now (buffer .exit)) ⌝ }
 {
     buffer.number(state.keeper.id as u64);
@@ -45,7 +45,7 @@ pub fn write_state<T: Text>(state: &State<T>, buffer: &mut Buffer)
 }
 
 // The fields of a message behind its head.
-pub fn write_body<T: Text>(body: &Body<T>, buffer: &mut Buffer)
+pub(crate) fn write_body<T: Text>(body: &Body<T>, buffer: &mut Buffer)
     ensures { λ _. ⌜ Put (body-items (T·Text .items) (now (body .entry))) (now (buffer .entry)) (now (buffer .exit)) ⌝ }
 {
     match body {

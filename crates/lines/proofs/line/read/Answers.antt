@@ -23,13 +23,13 @@ pub returns-in-Break-head : need.returns-in-Break-head
 returns-in-Break-head g c =
     let o = opened _ _ (c .in-Continue-end .ensures tt) (c .token-of .ensures .bytes) in
     reads-fault (g .T·Text .form) (g .T·Text .items) (g .T·Text·met .fits) (g .T·Text·met .apart) _ _ _ (c .from-residual-in-Break-head .ensures .1)
-    (told-fault (g .T·Text .form) (g .T·Text .items) _ _ _ o _ (c .in-Continue-kind .ensures tt) _ (first-fault _ _ _ _ (c .in-Break-head .ensures tt)))
+    (told-fault (g .T·Text .form) (g .T·Text .items) _ _ _ o _ (c .in-Continue-kind .ensures tt) _ _ (first-fault _ _ _ _ _ (c .in-Break-head .ensures tt)))
 
 pub returns-in-Break-body : need.returns-in-Break-body
 returns-in-Break-body g c =
     let o = opened _ _ (c .in-Continue-end .ensures tt) (c .token-of .ensures .bytes) in
     reads-fault (g .T·Text .form) (g .T·Text .items) (g .T·Text·met .fits) (g .T·Text·met .apart) _ _ _ (c .from-residual-in-Break-body .ensures .1)
-    (told-fault (g .T·Text .form) (g .T·Text .items) _ _ _ o _ (c .in-Continue-kind .ensures tt) _ (then-fault _ _ _ _ _ _ (c .in-Continue-head .ensures tt) (c .in-Break-body .ensures tt)))
+    (told-fault (g .T·Text .form) (g .T·Text .items) _ _ _ o _ (c .in-Continue-kind .ensures tt) _ _ (then-fault _ _ _ _ _ _ _ (c .in-Continue-head .ensures tt) (c .in-Break-body .ensures tt)))
 
 pub returns-in-Break-end-2 : need.returns-in-Break-end-2
 returns-in-Break-end-2 g c =

@@ -3,17 +3,17 @@ use Rattle.lines.specs.Messages.{head-form, head-items}
 use Rattle.lines.proofs.reading.read_head.Needs as need
 
 pub returns-in-Break-register : need.returns-in-Break-register
-returns-in-Break-register c = exit head-form head-items _ _ _ _ (c .from-residual .ensures .1) (first-fault _ _ _ _ (c .in-Break-register .ensures tt))
+returns-in-Break-register c = exit head-form head-items _ _ _ _ (c .from-residual .ensures .1) (first-fault _ _ _ _ _ (c .in-Break-register .ensures tt))
 
 pub returns-in-Break-hub : need.returns-in-Break-hub
 returns-in-Break-hub c =
     exit head-form head-items _ _ _ _ (c .from-residual-in-Break-hub .ensures .1)
-    (then-fault _ _ _ _ _ _ (c .in-Continue-register .ensures tt) (first-fault _ _ _ _ (c .in-Break-hub .ensures tt)))
+    (then-fault _ _ _ _ _ _ _ (c .in-Continue-register .ensures tt) (first-fault _ _ _ _ _ (c .in-Break-hub .ensures tt)))
 
 pub returns-in-Break-attempt : need.returns-in-Break-attempt
 returns-in-Break-attempt c =
     exit head-form head-items _ _ _ _ (c .from-residual-in-Break-attempt .ensures .1)
-    (then-fault _ _ _ _ _ _ (c .in-Continue-register .ensures tt) (then-fault _ _ _ _ _ _ (c .in-Continue-hub .ensures tt) (c .in-Break-attempt .ensures tt)))
+    (then-fault _ _ _ _ _ _ _ (c .in-Continue-register .ensures tt) (then-fault _ _ _ _ _ _ _ (c .in-Continue-hub .ensures tt) (c .in-Break-attempt .ensures tt)))
 
 pub returns : need.returns
 returns c = then-went _ _ _ _ _ _ _ (c .in-Continue-register .ensures tt) (then-went _ _ _ _ _ _ _ (c .in-Continue-hub .ensures tt) (c .in-Continue-attempt .ensures tt))
