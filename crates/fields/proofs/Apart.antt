@@ -67,5 +67,5 @@ excludes _ bs o e (wrong {s} f t n w p) (i ∷ is) more fit ends at = wrong-meet
 excludes _ bs o e (later f t n i st h) [] more fit ends at = fit
 excludes _ bs o e (later {s} {next} f t n i st h) (j ∷ js) more fit ends at =
     let r = first-item s j js bs f t more (fit .0) ends n at in
-    let z = st j (fit .0) (r .0) in
+    let z = st .no-other j (fit .0) (r .0) in
     excludes (next i) t (o + 1 + length f) e h js more (subst (λ x. Fit (next x) js) z (fit .1)) ends (r .1)

@@ -60,7 +60,7 @@ fault-past (field s next) after [] bs more o e at ends fit h = absurd fit
 fault-past (field s next) after (i ∷ is) bs more o e at ends fit h =
     later (spelt i) (written is ++ more)
     (record { is = at ∙ ap (λ l. 9 ∷ l) (append-assoc (spelt i) (written is) more); plain = meets-plain s i (fit .0); ends = ends-on is more ends })
-    i (λ j m f. item-same s j i m (fit .0) (sym f))
+    i (record { allowed = fit .0; no-other = λ j m f. item-same s j i m (fit .0) (sym f) })
     (fault-past (next i) (λ l. after (i ∷ l)) is (written is ++ more) more (o + 1 + length (spelt i)) e refl ends (fit .1)
     (let k : o + length (written (i ∷ is)) ≡ o + 1 + length (spelt i) + length (written is) = omega (arith, length-append (spelt i) (written is)) in subst (λ k. FaultIn (after (i ∷ is)) more k e) k h))
 

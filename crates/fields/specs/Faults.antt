@@ -26,9 +26,11 @@ pub data Wrong : Shape → List ℕ → FaultKind → Type 0 where
   out-of-range : {lo hi : ℕ} {f : List ℕ} → Numeral f → (InRange lo hi (number f) → ⊥) → Wrong (range lo hi) f Range
   no-access : {f : List ℕ} → (f ≡ 114 ∷ [] → ⊥) → (f ≡ 119 ∷ [] → ⊥) → Wrong access f BadForm
 
--- the field f of this shape stands for the item i; one that is at fault may stand for any
-abbrev pub StandsFor : Shape → List ℕ → Item → Type 0
-StandsFor s f i = (j : Item) → Meets s j → f ≡ spelt j → j ≡ i
+-- the field f, which has to be of this shape, stands for the item i; one that is at fault may stand for
+-- any item of the shape
+pub record StandsFor (s : Shape) (f : List ℕ) (i : Item) : Type 0 where
+  pub allowed : Meets s i
+  pub no-other : (j : Item) → Meets s j → f ≡ spelt j → j ≡ i
 
 -- the fields that begin bs, which stands at the offset o of a line, have the fault e: the line feed
 -- comes where a field is missing, a field is wrong, or a later one is

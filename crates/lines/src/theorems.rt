@@ -20,14 +20,12 @@ pub fn each_message_has_one_line<T: Text>()
 // A field has at most 13 digits, so a line is at most 14 bytes for each field, and two.
 pub fn a_line_is_bounded_by_its_fields<T: Text>()
     ensures { λ _. ⌜ ((m : Message T) → length (line-of (T·Text .items) m) ≤ 14 * length (message-items (T·Text .items) m) + 2) ⌝ }
-{
-}
+{}
 
 // Every message about a meter has a line.
 pub fn every_line_of_a_meter_fits()
     ensures { λ _. ⌜ ((m : Message Meter) → length (line-of meter-items m) ≤ 1024) ⌝ }
-{
-}
+{}
 
 // Writes the line of a message and reads it again: what is read is the message.
 pub fn read_back<T: Text>(message: &Message<T>, out: &mut [u8]) -> Result<Message<T>, TooLong>
