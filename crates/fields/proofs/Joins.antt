@@ -1,7 +1,7 @@
 -- Fields read one after another.
 use mathlib.Core.Path.{_≡_, refl, sym, ap, subst, _∙_}
 use mathlib.Core.List.{List, [], _∷_, _++_, append-assoc}
-use Prim.Native.Nat.{ℕ, _+_, _^_, _≤_}
+use Prim.Native.Nat.{ℕ, _+_}
 use native.Mathlib.Nat.{add-zero}
 use native.Mathlib.Omega.{arith}
 use lib.ListN.{length, length-append}
@@ -12,7 +12,7 @@ use Rattle.std.specs.declared.result.Result.the-variants.{Ok, Err}
 use Rattle.std.proofs.shelf.Decimals.{same-from-decimal}
 use Rattle.fields.specs.declared.fault.Fault.{Fault}
 use Rattle.fields.specs.declared.reader.Reader.{Reader}
-use Rattle.fields.specs.Cuts.{Mark, Plain, Ends, Next}
+use Rattle.fields.specs.Cuts.{Plain, Ends}
 use Rattle.fields.specs.Faults.{FaultIn, missing, wrong, later}
 use Rattle.fields.specs.Forms.{Item, num, letter, spelt, written, Shape, range, access, Meets, Form, end, field, Fit, _▷_}
 use Rattle.fields.specs.Readers.{rest, Went, FaultAt, Reading}

@@ -1,8 +1,7 @@
 -- What one field that was read says of the line.
 use mathlib.Core.Path.{_≡_, refl, sym, ap, subst, _∙_}
 use mathlib.Core.List.{List, [], _∷_, _++_, append-nil}
-use mathlib.Core.Logic.{_⊎_}
-use Prim.Native.Nat.{ℕ, _+_, _-_, _^_, _≤_, _<_, min}
+use Prim.Native.Nat.{ℕ, _+_, _-_}
 use native.Mathlib.Omega.{arith}
 use lib.ListN.{length, getD, take, drop}
 use Rattle.std.specs.Written.{decimal}
@@ -12,10 +11,10 @@ use Rattle.fields.specs.declared.fault.FaultKind.the-variants.{Count, Form as 
 use Rattle.fields.specs.declared.reader.Reader.{Reader}
 use Rattle.fields.specs.declared.token.Part.{Part}
 use Rattle.fields.specs.declared.token.Token.{Token}
-use Rattle.fields.specs.declared.token.Token.the-variants.{Letter, Number, Bad}
+use Rattle.fields.specs.declared.token.Token.the-variants.{Number, Bad}
 use Rattle.fields.specs.Cuts.{Closed, Ends, Next}
-use Rattle.fields.specs.Faults.{Wrong, no-number, out-of-range, no-access, FaultIn, missing, wrong}
-use Rattle.fields.specs.Forms.{Item, num, letter, spelt, written, Shape, range, access, InRange, Meets, Form, field, one}
+use Rattle.fields.specs.Faults.{no-number, out-of-range, no-access, missing, wrong}
+use Rattle.fields.specs.Forms.{Item, num, spelt, Shape, range, access, InRange, Meets, Form, field, one}
 use Rattle.fields.specs.Numerals.{Numeral, number}
 use Rattle.fields.specs.Readers.{rest, Passed, Went, FaultAt}
 use Rattle.fields.specs.Tokens.{text, part-of, Says}
@@ -67,9 +66,6 @@ module _ (p q : Reader) where
 
   pub no-number-at : (lo hi : ℕ) (t : Token) → Passed p q t → (Numeral (text t) → ⊥) → FaultAt p p (one (range lo hi)) (record { kind = BadForm; at = part-of t .at })
   no-number-at lo hi t h n = record { there = wrong (text t) (rest q) (h .next) (no-number n) (h .offset); same-line = refl; in-front = h .offset }
-
-  pub went-access : (b : ℕ) (part : Part) → Passed p q (Letter b part) → (b ≡ 114) ⊎ (b ≡ 119) → Went p q (one access) (letter b ∷ [])
-  went-access b part h o = went-one access (letter b) (Letter b part) h (sym (h .says .0)) o
 
   pub no-access-at : (t : Token) → Passed p q t → (text t ≡ 114 ∷ [] → ⊥) → (text t ≡ 119 ∷ [] → ⊥) → FaultAt p p (one access) (record { kind = BadForm; at = part-of t .at })
   no-access-at t h r w = record { there = wrong (text t) (rest q) (h .next) (no-access r w) (h .offset); same-line = refl; in-front = h .offset }

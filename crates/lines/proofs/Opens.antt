@@ -1,9 +1,9 @@
 -- From the fields behind the first one to the line.
 use mathlib.Core.Path.{_≡_, refl, sym, ap, subst, _∙_}
 use mathlib.Core.List.{List, [], _∷_, _++_}
-use Prim.Native.Nat.{ℕ, _+_, _-_, _≤_, _<_}
+use Prim.Native.Nat.{ℕ, _+_, _-_}
 use native.Mathlib.Omega.{arith}
-use lib.ListN.{length, getD, take, drop, length-take, take-append-drop}
+use lib.ListN.{length, take, drop, length-take, take-append-drop}
 use Rattle.std.specs.declared.result.Result.the-variants.{Ok, Err}
 use Rattle.std.proofs.shelf.Lists.{drop-more}
 use Rattle.protocol.specs.declared.message.Body.{Body}
@@ -23,7 +23,7 @@ use Rattle.fields.proofs.Slices.{plain-cut}
 use Rattle.lines.specs.declared.letter.MessageKind.{MessageKind}
 use Rattle.lines.specs.Letters.{letter, kind-of, Naming}
 use Rattle.lines.specs.Lines.{LineOf, Faulty, unknown, field, extra}
-use Rattle.lines.specs.Messages.{head-form, head-items, body-form, body-items, BodyReading, message-form, line-of}
+use Rattle.lines.specs.Messages.{head-form, head-items, body-form, body-items, BodyReading, message-form}
 
 -- f is the first field of the line, and the reader p stands behind it
 pub record Opened (line f : List ℕ) (p : Reader) : Type 0 where

@@ -21,16 +21,16 @@ use Rattle.protocol.specs.declared.message.Message.{Message}
 use Rattle.protocol.specs.declared.message.Promise.{Promise}
 use Rattle.protocol.specs.declared.round.Round.{Round}
 use Rattle.fields.specs.declared.fault.Fault.{Fault}
-use Rattle.fields.specs.Cuts.{Mark, Closed, Framed, Plain, Ends}
-use Rattle.fields.specs.Forms.{Item, num, letter as letter-item, spelt, written, Shape, range, InRange, access, Meets, Form, end, field, one, Fit, _▷_}
-use Rattle.fields.specs.Readers.{access-letter, access-items}
+use Rattle.fields.specs.Cuts.{Mark, Closed, Plain}
+use Rattle.fields.specs.Forms.{Item, num, spelt, written, range, InRange, access, Form, end, field, one, Fit, _▷_}
+use Rattle.fields.specs.Readers.{access-items}
 use Rattle.fields.proofs.Apart.{prefix, items-same, excludes}
 use Rattle.fields.proofs.Joins.{meets-plain, ends-on, fit-join}
 use Rattle.lines.specs.declared.letter.MessageKind.{MessageKind}
 use Rattle.lines.specs.declared.letter.MessageKind.the-variants.{Prepare, PrepareAt, Vote, State, Voted}
 use Rattle.lines.specs.Letters.{letter, kind-of}
 use Rattle.lines.specs.Lines.{LineOf, Faulty, frame, unknown, field as field-fault, extra, Told, Reads, OneLine}
-use Rattle.lines.specs.Messages.{head-form, head-items, round-form, round-items, promise-form, promise-items, bit, state-form, body-form, body-items, message-form, message-items, line-of}
+use Rattle.lines.specs.Messages.{head-form, head-items, round-form, round-items, promise-form, promise-items, bit, body-form, body-items, message-form, message-items, line-of}
 use Rattle.lines.proofs.Same.{letter-same, message-same}
 
 -- the line feed is the last byte and the only one, where the bytes before it have none

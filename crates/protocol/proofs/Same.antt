@@ -1,5 +1,5 @@
 -- Two values of a type with ranges are the same where their numbers are: a range has one proof.
-use Prim.Native.Nat.{ℕ, _+_, _≤_, _<_, _^_}
+use Prim.Native.Nat.{ℕ, _+_, _≤_, _^_}
 use mathlib.Core.Path.{_≡_, refl, ap}
 use mathlib.Core.HLevel.{isProp→PathP, Π-prop}
 use mathlib.Core.Bool.{true}

@@ -3,7 +3,7 @@ ghost use mathlib.Core.Path.{_≡_};
 ghost use Rattle.protocol.specs.declared.kind.Applied.{Applied};
 ghost use Rattle.protocol.specs.Refusals.{denial-number};
 
-// Why a command is denied: it was understood, and the value does not allow it.
+// Why a command is denied: it is none that the kind knows, or the value does not allow it.
 #[derive(Clone, Copy)]
 pub enum Denial {
     CommandOutOfRange,

@@ -1,5 +1,4 @@
 // What a meter does with a command.
-ghost use mathlib.Core.Path.{_≡_};
 ghost use Rattle.kinds.specs.Meters.{MakesMeter, zero-meter, add-to};
 use crate::meter::Add;
 use crate::meter::Meter;

@@ -1,11 +1,10 @@
 use borrow.Author.Needs.{needs}
 use native.Mathlib.Omega.{arith}
-use mathlib.Core.Logic.{inl, inr}
-use mathlib.Core.Path.{_≡_, refl, sym, ap, subst, _∙_}
+use mathlib.Core.Path.{_≡_, sym, ap, subst, _∙_}
 use lib.ListN.{getD}
 use Rattle.fields.specs.Readers.{Passed}
 use Rattle.fields.proofs.Digits.{no-digit-alone}
-use Rattle.fields.proofs.Parts.{went-access, no-access-at, none-left}
+use Rattle.fields.proofs.Parts.{no-access-at, none-left}
 use Rattle.fields.proofs.reader.Reader.access.Needs as need
 
 pub returns-in-rest : need.returns-in-rest
