@@ -16,7 +16,7 @@ use Rattle.std.proofs.shelf.Elements.{all-from-getD}
 use Rattle.std.proofs.shelf.Numerals.{digit-at, tells-digits, numerals-by-value, Numerals}
 use Rattle.std.proofs.shelf.Tests.{cases-lt}
 use Rattle.fields.specs.Cuts.{Mark, Plain}
-use Rattle.fields.specs.Numerals.{Numeral, number}
+use Rattle.fields.specs.Numerals.{StartsWell, Numeral, number}
 
 digit-of : (c : ℕ) → 48 ≤ c → c ≤ 57 → (digitValue c ≡ c - 48) × (digitValue c < 10)
 digit-of c lo hi = search needs
@@ -38,27 +38,26 @@ one-more f i n m s l lo hi e =
 pub no-digit : (f : List ℕ) (i : ℕ) → i < length f → (getD f i 0 < 48) ⊎ (57 < getD f i 0) → Numeral f → ⊥
 no-digit f i l o n = let d = digit-at f i (n .digits) l in omega (arith, d)
 
-pub all-read : (f : List ℕ) (i n : ℕ) → SoFar f i n → length f ≤ i → 0 < length f → ((getD f 0 0 ≡ 48) × (length f ≤ 1)) ⊎ (getD f 0 0 ≡ 48 → ⊥) → Numeral f × (n ≡ min (number f) (2 ^ 50))
-all-read f i n s l some o =
+pub all-read : (f : List ℕ) (i n : ℕ) → SoFar f i n → length f ≤ i → StartsWell f → Numeral f × (n ≡ min (number f) (2 ^ 50))
+all-read f i n s l starts =
     let e = take-all i f l in
-    let one-zero : getD f 0 0 ≡ 48 → length f ≡ 1 = λ z. ⊎-elim (λ p. let q : length f ≡ 1 = omega (arith, p .1) in q) (λ p. absurd (p z)) o in
-    (record { some = some; digits = subst (Digits 10) e (s .digits); plain = one-zero }, s .capped ∙ ap (λ g. min (number g) (2 ^ 50)) e)
+    (record { starts = starts; digits = subst (Digits 10) e (s .digits) }, s .capped ∙ ap (λ g. min (number g) (2 ^ 50)) e)
 
 -- a field of one byte that is no digit is no number
 pub no-digit-alone : (f : List ℕ) (b : ℕ) → Numeral f → f ≡ b ∷ [] → 57 < b → ⊥
-no-digit-alone f b n e o = no-digit f 0 (n .some) (subst (λ g. (getD g 0 0 < 48) ⊎ (57 < getD g 0 0)) (sym e) (inr o)) n
+no-digit-alone f b n e o = no-digit f 0 (n .starts .some) (subst (λ g. (getD g 0 0 < 48) ⊎ (57 < getD g 0 0)) (sym e) (inr o)) n
 
 own : Numerals (Digits 10) (value 10)
 own = numerals-by-value (Digits 10) tells-digits
 
 -- a number is written in one way
 pub decimal-number : (f : List ℕ) → Numeral f → number f < 2 ^ 64 → decimal (number f) ≡ f
-decimal-number f n h = decimal-value own f (n .digits) (n .some) (n .plain) h
+decimal-number f n h = decimal-value own f (n .digits) (n .starts .some) (n .starts .no-zero) h
 
 pub numeral-decimal : (n : ℕ) → n ≤ 2 ^ 40 → Numeral (decimal n) × (number (decimal n) ≡ n)
 numeral-decimal n h =
     let r = decimal-reads n (omega arith) in
-    (record { some = r .0 .0; digits = r .0 .1; plain = no-zero n h }, r .1)
+    (record { starts = record { some = r .0 .0; no-zero = no-zero n h }; digits = r .0 .1 }, r .1)
   where
     no-zero : (n : ℕ) → n ≤ 2 ^ 40 → getD (decimal n) 0 0 ≡ 48 → length (decimal n) ≡ 1
     no-zero n h e = ⊎-elim (λ p. absurd (omega (arith, first-decimal n p (omega arith), e))) (λ p. ap length (decimal-digit n (omega arith))) (cases-lt 0 n)
