@@ -64,8 +64,8 @@ abbrev pub Writing : List ℕ → List ℕ → List ℕ → Result ℕ TooLong �
 Writing line before after (Ok n) = Stands line before after n
 Writing line before after (Err e) = NoRoomFor line before after
 
--- a message that was written to a buffer and read again is as it was; it is not written only where
--- there is no room
-abbrev pub ReadBack : {V : Type 0} → (V → List Item) → Message V → List ℕ → Result (Message V) TooLong → Type 0
-ReadBack items m buffer (Ok n) = n ≡ m
-ReadBack items m buffer (Err e) = (1024 < length (line-of items m)) ⊎ (length buffer < length (line-of items m))
+-- a message that was written to a buffer and read again is as it was, and its line stands in the
+-- buffer; it is not written only where there is no room
+abbrev pub ReadBack : {V : Type 0} → (V → List Item) → Message V → List ℕ → List ℕ → Result (Message V) TooLong → Type 0
+ReadBack items m before after (Ok n) = (n ≡ m) × Stands (line-of items m) before after (length (line-of items m))
+ReadBack items m before after (Err e) = NoRoomFor (line-of items m) before after

@@ -29,7 +29,7 @@ pub fn every_line_of_a_meter_fits()
 
 // Writes the line of a message and reads it again: what is read is the message.
 pub fn read_back<T: Text>(message: &Message<T>, out: &mut [u8]) -> Result<Message<T>, TooLong>
-    ensures { λ r. ⌜ ReadBack (T·Text .items) (now (message .entry)) (now (out .entry)) r ⌝ }
+    ensures { λ r. ⌜ ReadBack (T·Text .items) (now (message .entry)) (now (out .entry)) (now (out .exit)) r ⌝ }
 {
     let n = write(message, out)?;
     match read(&out[0..n]) {
