@@ -40,5 +40,5 @@ pub data Replied (line : List ℕ) (buffer : Buffer) : Type 0 where
 -- the line of a message, which the keeper refuses or replies to by its rules
 pub data Answered {S V : Type 0} (value : Form) (items : V → List Item) (records : S → List (Record V)) (opened : S → Bool) (before : Keeper S V) (line : List ℕ) (after : Keeper S V) (buffer : Buffer) : Type 0 where
   faulty : (e : Fault) → Faulty value line e → after ≡ before → Filled (refusal-line (number-of (fault-reason (e .kind)))) buffer → Answered value items records opened before line after buffer
-  refused : (m : Message V) (e : KeeperRefusal) → LineOf items m line → Received (before .id) (records (before .store)) (opened (before .store)) m (Err e) (records (after .store)) → after ≡ before → Filled (refusal-line (number-of (keeper-reason e))) buffer → Answered value items records opened before line after buffer
-  replied : (m reply : Message V) → LineOf items m line → Received (before .id) (records (before .store)) (opened (before .store)) m (Ok reply) (records (after .store)) → after .id ≡ before .id → Replied (line-of items reply) buffer → Answered value items records opened before line after buffer
+  refused : (m : Message V) (e : KeeperRefusal) → LineOf items m line → Received records opened before m (Err e) after → Filled (refusal-line (number-of (keeper-reason e))) buffer → Answered value items records opened before line after buffer
+  replied : (m reply : Message V) → LineOf items m line → Received records opened before m (Ok reply) after → Replied (line-of items reply) buffer → Answered value items records opened before line after buffer

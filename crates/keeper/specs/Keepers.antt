@@ -4,6 +4,7 @@ use mathlib.Core.Bool.{Bool, true, false, cond}
 use mathlib.Core.List.{List}
 use mathlib.Core.Path.{_≡_}
 use Rattle.std.specs.Finite.{nth}
+use Rattle.std.specs.Results.{isOk}
 use Rattle.std.specs.declared.option.Option.{Option}
 use Rattle.std.specs.declared.option.Option.the-variants.{Some, None}
 use Rattle.std.specs.declared.result.Result.{Result}
@@ -52,7 +53,11 @@ stores? (Refused e) = false
 stores? (Answered reply) = false
 stores? (Stored new reply) = true
 
--- a keeper with these records received a message while its store was open or shut: this is its reply, and these are its records after
-pub record Received {V : Type 0} (keeper : KeeperId) (before : List (Record V)) (open? : Bool) (m : Message V) (reply : Result (Message V) KeeperRefusal) (after : List (Record V)) : Type 0 where
-  pub replies : reply ≡ reply-of open? (receiving keeper before m)
-  pub keeps : after ≡ records-after open? before (m .head .register) (receiving keeper before m)
+-- a keeper received a message, over what its store means: its reply and its records after are those of
+-- the step that the rules define; and where nothing is stored, nothing changes
+pub record Received {S V : Type 0} (records : S → List (Record V)) (opened : S → Bool) (before : Keeper S V) (m : Message V) (reply : Result (Message V) KeeperRefusal) (after : Keeper S V) : Type 0 where
+  pub replies-by-the-rules : reply ≡ reply-of (opened (before .store)) (receiving (before .id) (records (before .store)) m)
+  pub keeps-records-by-the-rules : records (after .store) ≡ records-after (opened (before .store)) (records (before .store)) (m .head .register) (receiving (before .id) (records (before .store)) m)
+  pub keeps-its-number : after .id ≡ before .id
+  pub a-refusal-changes-nothing : isOk reply ≡ false → after ≡ before
+  pub only-a-step-that-stores-changes-anything : stores? (receiving (before .id) (records (before .store)) m) ≡ false → after ≡ before

@@ -4,7 +4,7 @@ ghost use mathlib.Core.Bool.{false};
 ghost use lib.ListN.{length};
 ghost use Rattle.std.specs.Results.{isOk};
 ghost use Rattle.protocol.specs.Stores.{Cleaned};
-ghost use Rattle.keeper.specs.Keepers.{MakesKeeperOver, Received, receiving, stores?};
+ghost use Rattle.keeper.specs.Keepers.{MakesKeeperOver, Received};
 use crate::refusal::KeeperRefusal;
 use crate::rules::asks_a_keeper;
 use crate::rules::step;
@@ -48,10 +48,7 @@ impl<S: Store> Keeper<S> {
         &mut self,
         message: &Message<S::Value>,
     ) -> Result<Message<S::Value>, KeeperRefusal>
-        ensures received { λ r. ⌜ Received (now (self .entry) .id) (S·Store .records (now (self .entry) .store)) (S·Store .opened (now (self .entry) .store)) (now (message .entry)) r (S·Store .records (now (self .exit) .store)) ⌝ }
-        ensures keeps_its_number { λ _. ⌜ now (self .exit) .id ≡ now (self .entry) .id ⌝ }
-        ensures a_refusal_changes_nothing { λ r. ⌜ (isOk r ≡ false → now (self .exit) ≡ now (self .entry)) ⌝ }
-        ensures only_a_step_that_stores_changes_anything { λ _. ⌜ (stores? (receiving (now (self .entry) .id) (S·Store .records (now (self .entry) .store)) (now (message .entry))) ≡ false → now (self .exit) ≡ now (self .entry)) ⌝ }
+        ensures { λ r. ⌜ Received (S·Store .records) (S·Store .opened) (now (self .entry)) (now (message .entry)) r (now (self .exit)) ⌝ }
     {
         if !asks_a_keeper(message) {
             return Err(KeeperRefusal::WrongMessage);

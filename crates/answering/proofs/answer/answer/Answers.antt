@@ -9,11 +9,9 @@ returns-in-Err g c =
 
 pub returns-in-Err-receive : need.returns-in-Err-receive
 returns-in-Err-receive g c =
-    let e = c .in-Err-receive .ensures tt in
-    refused (c .in-Ok .message) (c .in-Err-receive .refusal) (c .in-Ok .ensures tt .tells-the-message-or-a-fault) (e .received) (e .a-refusal-changes-nothing refl)
+    refused (c .in-Ok .message) (c .in-Err-receive .refusal) (c .in-Ok .ensures tt .tells-the-message-or-a-fault) (c .in-Err-receive .ensures tt)
     (filled-as _ _ _ (c .reason-in-Err-receive .ensures) (c .write-refusal-in-Err-receive .ensures))
 
 pub returns-in-Ok-receive : need.returns-in-Ok-receive
 returns-in-Ok-receive g c =
-    let e = c .in-Ok-receive .ensures tt in
-    replied (c .in-Ok .message) (c .in-Ok-receive .reply) (c .in-Ok .ensures tt .tells-the-message-or-a-fault) (e .received) (e .keeps-its-number) (c .write-reply .ensures)
+    replied (c .in-Ok .message) (c .in-Ok-receive .reply) (c .in-Ok .ensures tt .tells-the-message-or-a-fault) (c .in-Ok-receive .ensures tt) (c .write-reply .ensures)
