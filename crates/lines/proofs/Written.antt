@@ -34,11 +34,11 @@ whole-line l p q empty w h =
     (n, w .kept ∙ ap (λ k. take 1024 (take k (p .bytes) ++ l)) empty ∙ take-all 1024 l (omega arith))
 
 -- the line in front of what was there
-pub stands-first : (l before copied bytes : List ℕ) (n : ℕ) → length l ≡ n → take n bytes ≡ l → n ≤ length before → n ≤ 1024 → copied ≡ take (n - 0) bytes → Stands l before (copied ++ drop (n - 0) before) n
-stands-first l before copied bytes n len is fits short e =
+pub stands-first : (l before copied bytes : List ℕ) (n told : ℕ) → told ≡ n → length l ≡ n → take n bytes ≡ l → n ≤ length before → n ≤ 1024 → copied ≡ take (n - 0) bytes → Stands l before (copied ++ drop (n - 0) before) told
+stands-first l before copied bytes n told right len is fits short e =
     let z : n - 0 ≡ n = omega arith in
     record {
-      count = sym len;
+      count = right ∙ sym len;
       fits = omega arith;
       short = omega arith;
       is = ap (λ k. k ++ drop (n - 0) before) (e ∙ ap (λ k. take k bytes) z ∙ is) ∙ ap (λ k. l ++ drop k before) (z ∙ sym len);

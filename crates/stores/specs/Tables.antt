@@ -22,6 +22,14 @@ table-records s = vec-items (s .table)
 abbrev pub table-open : {V : Type 0} → TableStore V → Bool
 table-open s = true
 
+-- its cleaning needs no scratch
+abbrev pub table-needed : {V : Type 0} → TableStore V → ℕ
+table-needed s = 0
+
+-- and does nothing
+abbrev pub table-cleans : {V : Type 0} → TableStore V → TableStore V → Type 0
+table-cleans before after = after ≡ before
+
 -- a table is made of new records
 abbrev pub MakesTable : {V : Type 0} → V → ℕ → Result (TableStore V) NoStore → Type 0
 MakesTable first registers (Ok s) = RegisterCount registers × (table-records s ≡ replicate registers (new-record first))

@@ -1,9 +1,10 @@
 // The table store: one place for each register, always open.
 ghost use mathlib.Core.Path.{_≡_};
-ghost use lib.ListN.{replicate};
+ghost use lib.ListN.{length, replicate};
 ghost use Rattle.std.specs.Of.Vec.{vec-items};
 ghost use Rattle.std.specs.Vec.{made};
-ghost use Rattle.stores.specs.Tables.{table-records, table-open, MakesTable};
+ghost use Rattle.protocol.specs.Stores.{Cleaned};
+ghost use Rattle.stores.specs.Tables.{table-records, table-open, table-needed, table-cleans, MakesTable};
 use crate::making::NoStore;
 use protocol::kind::Kind;
 use protocol::record::Record;
@@ -51,9 +52,9 @@ pub impl<V: Copy> Store for TableStore<V> as TableAsStore {
 
     ghost opened = { table-open };
 
-    ghost needed = { λ _. 0 };
+    ghost needed = { table-needed };
 
-    ghost cleans = { λ before after. after ≡ before };
+    ghost cleans = { table-cleans };
 
     fn get(&self, register: u8) -> Result<Record<V>, StoreRefusal> {
         let place = register as usize;
@@ -68,14 +69,16 @@ pub impl<V: Copy> Store for TableStore<V> as TableAsStore {
         let place = register as usize;
         if place < self.table.len() {
             self.table[place] = *new;
-            Ok(())
-        } else {
-            Err(StoreRefusal::UnknownRegister)
+            return Ok(());
         }
+        Err(StoreRefusal::UnknownRegister)
     }
 
     // A table has nothing to clean, and needs no scratch for it.
-    fn clean(&mut self, _scratch: &mut [Entry<V>]) -> Result<(), StoreRefusal> {
+    fn clean(&mut self, scratch: &mut [Entry<V>]) -> Result<(), StoreRefusal>
+        ensures cleaned { λ r. ⌜ Cleaned table-records table-open table-needed table-cleans (length (now (scratch .entry))) (now (self .entry)) (now (self .exit)) r ⌝ }
+        ensures leaves_the_scratch_as_it_was { λ _. ⌜ now (scratch .exit) ≡ now (scratch .entry) ⌝ }
+    {
         Ok(())
     }
 }

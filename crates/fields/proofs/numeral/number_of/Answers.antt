@@ -14,7 +14,7 @@ returns-then-b-lt48 c =
 
 pub loop-b-again : need.loop-b-again
 loop-b-again c =
-    one-more (c .args .«field» .now) (c .loop-b .b-index) (c .loop-b .n) _ (c .loop-b .inv) (c .loop-b-test .taken) (c .if-b-lt48 .left) (c .if-b-gt57 .left) (c .min-n .ensures)
+    one-more (c .args .«field» .now) (c .loop-b .b-index) (c .loop-b .n) _ (c .loop-b .inv) (c .loop-b-test .taken) (c .if-b-lt48 .left) (c .if-b-gt57 .left) (omega (arith, c .min-n .ensures))
 
 pub returns : need.returns
 returns c = all-read (c .args .«field» .now) (c .loop-b .b-index) (c .loop-b .n) (c .loop-b .inv) (omega arith) (c .if-not-starts-well .ensures tt)

@@ -15,8 +15,8 @@ returns-then-place-len g c =
       a-refusal-changes-nothing = search needs;
     }
 
-pub returns-else-place-len : need.returns-else-place-len
-returns-else-place-len g c =
+pub returns : need.returns
+returns g c =
     let v = c .args .self .now .table in
     let e = v .ok .0 in
     record {

@@ -1,5 +1,6 @@
 use borrow.Author.Needs.{needs}
-use mathlib.Core.Path.{_≡_, refl}
+use native.Mathlib.Omega.{arith}
+use mathlib.Core.Path.{_≡_}
 use mathlib.Core.Bool.{true, _&&_}
 use lib.Dec.{leb}
 use native.Mathlib.Decide.{decLe}
@@ -12,4 +13,4 @@ returns c =
     let amount = c .args .command .now .amount in
     let total = c .args .self .now .total + amount in
     let within : (leb 1 amount && leb amount 1000000) ≡ true = search needs in
-    rw within (carried _ total refl (decLe total 4000000000))
+    rw within (carried _ _ total (omega arith) (omega arith) (decLe total 4000000000))
