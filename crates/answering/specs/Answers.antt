@@ -33,7 +33,7 @@ pub data Replied (line : List ℕ) (buffer : Buffer) : Type 0 where
 
 -- a keeper answered a line, over what its store means: the line has a fault, which is named; or it is
 -- the line of a message, which the keeper refuses or replies to by its rules
-pub data Answered {S V : Type 0} (value : Form) (items : V → List Item) (records : S → List (Record V)) (opened : S → Bool) (puts : S → ℕ → Record V → S → Type 0) (before : Keeper S V) (line : List ℕ) (after : Keeper S V) (buffer : Buffer) : Type 0 where
-  faulty : (e : Fault) → Faulty value line e → after ≡ before → Filled (refusal_line (number_of (fault_reason e.kind))) buffer → Answered value items records opened puts before line after buffer
-  refused : (m : Message V) (e : KeeperRefusal) → LineOf items m line → Received records opened puts before m (Err e) after → Filled (refusal_line (number_of (keeper_reason e))) buffer → Answered value items records opened puts before line after buffer
-  replied : (m reply : Message V) → LineOf items m line → Received records opened puts before m (Ok reply) after → Replied (line_of items reply) buffer → Answered value items records opened puts before line after buffer
+pub data Answered {S V : Type 0} (value : Form) (items : V → List Item) (records : S → List (Record V)) (opened : S → Bool) (before : Keeper S V) (line : List ℕ) (after : Keeper S V) (buffer : Buffer) : Type 0 where
+  faulty : (e : Fault) → Faulty value line e → after ≡ before → Filled (refusal_line (number_of (fault_reason e.kind))) buffer → Answered value items records opened before line after buffer
+  refused : (m : Message V) (e : KeeperRefusal) → LineOf items m line → Received records opened before m (Err e) after → Filled (refusal_line (number_of (keeper_reason e))) buffer → Answered value items records opened before line after buffer
+  replied : (m reply : Message V) → LineOf items m line → Received records opened before m (Ok reply) after → Replied (line_of items reply) buffer → Answered value items records opened before line after buffer

@@ -39,7 +39,7 @@ pub fn answer<T: Text, S: Store<Value = T>>(
     line: &[u8],
     buffer: &mut Buffer,
 )
-    ensures { Answered T.Text.form T.Text.items S.Store.records S.Store.opened S.Store.puts keeper.old line.now keeper.new buffer.new }
+    ensures { Answered T.Text.form T.Text.items S.Store.records S.Store.opened keeper.old line.now keeper.new buffer.new }
 {
     match read::<T>(line) {
         Err(fault) => write_refusal(fault.kind.reason(), buffer),

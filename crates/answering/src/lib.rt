@@ -1,2 +1,4 @@
 // A keeper that answers lines.
+#![tactic(auto)]
+
 pub mod answer;

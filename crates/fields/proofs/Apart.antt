@@ -4,7 +4,7 @@ use Rattle.fields.specs.declared.fault.Fault.{Fault}
 use Rattle.fields.specs.declared.fault.FaultKind.{FaultKind}
 use Rattle.fields.specs.Cuts.{Plain, Ends, Next}
 use Rattle.fields.specs.Faults.{Wrong, no_number, out_of_range, no_access, FaultIn, missing, wrong, later}
-use Rattle.fields.specs.Forms.{Item, num, letter, spelt, written, Shape, range, access, InRange, Meets, Form, end, field, Fit}
+use Rattle.fields.specs.Forms.{Item, num, letter, spelt, written, Shape, InRange, Meets, Form, end, field, Fit}
 use Rattle.fields.specs.Numerals.{Numeral, number}
 use Rattle.fields.proofs.Digits.{numeral_decimal}
 use Rattle.fields.proofs.Joins.{meets_plain, item_same, ends_on}

@@ -5,7 +5,6 @@ use Rattle.std.proofs.lemmas.Bool.Decides.{nat_tests}
 use Rattle.protocol.specs.declared.message.Access.{Access}
 use Rattle.protocol.specs.declared.message.Access.TheVariants.{Read, Write}
 use Rattle.std.proofs.lemmas.List.{drop_more}
-use Rattle.fields.specs.declared.fault.Fault.{Fault}
 use Rattle.fields.specs.declared.fault.FaultKind.{FaultKind}
 use Rattle.fields.specs.declared.fault.FaultKind.TheVariants.{Count, Form as BadForm, Range}
 use Rattle.fields.specs.declared.reader.Reader.{Reader}

@@ -1,4 +1,6 @@
 // Lines as fields: numbers and letters behind tabs, read from a line and written to a buffer.
+#![tactic(auto)]
+
 pub mod buffer;
 pub mod fault;
 pub mod numeral;

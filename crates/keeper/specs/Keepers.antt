@@ -47,10 +47,9 @@ stores? (Stored new reply) = true
 
 -- a keeper received a message, over what its store means: its reply and its records after are those of
 -- the step that the rules define; and where nothing is stored, nothing changes
-pub record Received {S V : Type 0} (records : S → List (Record V)) (opened : S → Bool) (puts : S → ℕ → Record V → S → Type 0) (before : Keeper S V) (m : Message V) (reply : Result (Message V) KeeperRefusal) (after : Keeper S V) : Type 0 where
+pub record Received {S V : Type 0} (records : S → List (Record V)) (opened : S → Bool) (before : Keeper S V) (m : Message V) (reply : Result (Message V) KeeperRefusal) (after : Keeper S V) : Type 0 where
   pub replies_by_the_rules : reply ≡ reply_of (opened before.store) (receiving before.id (records before.store) m)
   pub keeps_records_by_the_rules : records after.store ≡ records_after (opened before.store) (records before.store) m.head.register (receiving before.id (records before.store) m)
-  pub puts_in_the_way_of_its_store : is_ok reply ≡ true → (new : Record V) (said : Message V) → receiving before.id (records before.store) m ≡ Stored new said → puts before.store m.head.register new after.store
   pub keeps_its_number : after.id ≡ before.id
   pub a_refusal_changes_nothing : is_ok reply ≡ false → after ≡ before
   pub only_a_step_that_stores_changes_anything : stores? (receiving before.id (records before.store) m) ≡ false → after ≡ before

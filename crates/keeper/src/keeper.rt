@@ -1,6 +1,6 @@
 // A keeper over any store.
 ghost use Rattle.std.specs.Prelude.{◌≡◌, false, length, is_ok};
-ghost use Rattle.protocol.specs.Stores.{Cleaned, FreeScratch};
+ghost use Rattle.protocol.specs.Stores.{Cleaned};
 ghost use Rattle.keeper.specs.Keepers.{MakesKeeperOver, Received};
 
 use crate::refusal::KeeperRefusal;
@@ -42,7 +42,7 @@ impl<S: Store> Keeper<S> {
         &mut self,
         message: &Message<S::Value>,
     ) -> Result<Message<S::Value>, KeeperRefusal>
-        ensures { Received S.Store.records S.Store.opened S.Store.puts self.old message.now result self.new }
+        ensures { Received S.Store.records S.Store.opened self.old message.now result self.new }
     {
         if !asks_a_keeper(message) {
             return Err(KeeperRefusal::WrongMessage);
@@ -64,7 +64,6 @@ impl<S: Store> Keeper<S> {
     // Makes room in the store. It is the caller's to say when, since it takes time and a scratch.
     pub fn clean(&mut self, scratch: &mut [Entry<S::Value>]) -> Result<(), StoreRefusal>
         ensures cleaned { Cleaned S.Store.records S.Store.opened S.Store.needed S.Store.cleans (length scratch.old) self.old.store self.new.store result }
-        ensures leaves_a_free_scratch { FreeScratch scratch.old scratch.new result }
         ensures keeps_its_number { self.new.id ≡ self.old.id }
         ensures a_refusal_changes_nothing { is_ok result ≡ false → self.new ≡ self.old }
     {

@@ -1,5 +1,7 @@
 // Keeper 0 of three, with four meters in a table: for each line of standard input it writes the
 // reply line, or X and the number of the refusal.
+#![tactic(auto)]
+
 mod serve;
 
 use anyhow::anyhow;

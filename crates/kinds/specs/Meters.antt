@@ -18,7 +18,7 @@ zero_meter = record { total = 0; within = omega arith }
 
 -- a total is carried, and is its own answer, unless it is too great
 abbrev pub reaches : (total : ℕ) → Dec (total ≤ 4000000000) → Applied Meter
-reaches total (yes h) = Carried (record { total = total; within = h }) (record { number = total; within = omega arith })
+reaches total (yes h) = Carried (record { total = total; within = h }) total
 reaches total (no h) = Denied TotalPassesTop
 
 -- a command adds 1 to 1,000,000

@@ -3,11 +3,10 @@ use Rattle.std.proofs.Common.{◌≡◌, ℕ, ◌+◌, ◌-◌, List, [], ◌∷
 use Rattle.std.proofs.lemmas.List.{drop_more}
 use Rattle.protocol.specs.declared.message.Body.{Body}
 use Rattle.protocol.specs.declared.message.Head.{Head}
-use Rattle.protocol.specs.declared.message.Message.{Message}
 use Rattle.fields.specs.declared.fault.Fault.{Fault}
 use Rattle.fields.specs.declared.reader.Reader.{Reader}
 use Rattle.fields.specs.declared.token.Token.{Token}
-use Rattle.fields.specs.Cuts.{Framed, Plain, Ends}
+use Rattle.fields.specs.Cuts.{Framed, Plain}
 use Rattle.fields.specs.Faults.{FaultIn}
 use Rattle.fields.specs.Forms.{Item, written, Form}
 use Rattle.fields.specs.Readers.{rest, FirstEnds, Went, FaultAt, Ending}

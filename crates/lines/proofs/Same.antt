@@ -9,7 +9,7 @@ use Rattle.protocol.specs.declared.message.Message.{Message}
 use Rattle.protocol.specs.declared.message.Number.{Number}
 use Rattle.protocol.specs.declared.message.State as state
 use Rattle.protocol.proofs.Same.{same_head, same_keeper, same_number, same_promise, same_round}
-use Rattle.fields.specs.Forms.{Item, num}
+use Rattle.fields.specs.Forms.{Item}
 use Rattle.fields.specs.Readers.{access_letter}
 use Rattle.lines.specs.declared.letter.MessageKind.{MessageKind}
 use Rattle.lines.specs.declared.letter.MessageKind.TheVariants.{Prepare, PrepareAt, Vote, State, Voted}

@@ -1,5 +1,5 @@
 -- A line is the line of at most one message, and of none where a fault is.
-use Rattle.std.proofs.Common.{◌≡◌, ℕ, ◌+◌, ◌-◌, ◌^◌, ◌<◌, ◌≤◌, Bool, true, false, List, [], ◌∷◌, ◌++◌, length, get_or, IsErrAnd, Ok, Err, Result, sym, refl, ap, ◌∙◌, subst, inl, inr, arith}
+use Rattle.std.proofs.Common.{◌≡◌, ℕ, ◌-◌, ◌^◌, ◌<◌, ◌≤◌, Bool, true, false, List, [], ◌∷◌, ◌++◌, length, get_or, IsErrAnd, Ok, Err, Result, sym, refl, ap, ◌∙◌, subst, inl, inr, arith}
 use Rattle.std.specs.List.{AllByRecursion as All}
 use Rattle.std.proofs.ByRecursion.{All-append, All-get_or, All-weaker}
 use Rattle.std.proofs.lemmas.List.{get_or_push, get_or_append_left, length_push}
@@ -13,7 +13,7 @@ use Rattle.protocol.specs.declared.message.Promise.{Promise}
 use Rattle.protocol.specs.declared.round.Round.{Round}
 use Rattle.fields.specs.declared.fault.Fault.{Fault}
 use Rattle.fields.specs.Cuts.{Mark, Closed, Plain}
-use Rattle.fields.specs.Forms.{Item, num, spelt, written, range, InRange, access, Form, end, field, one, Fit, ◌▷◌}
+use Rattle.fields.specs.Forms.{Item, num, spelt, written, InRange, access, Form, end, field, one, Fit, ◌▷◌}
 use Rattle.fields.specs.Readers.{access_items}
 use Rattle.fields.proofs.Apart.{prefix, items_same, excludes}
 use Rattle.fields.proofs.Joins.{meets_plain, ends_on, fit_join}

@@ -1,4 +1,6 @@
 // The five messages as lines.
+#![tactic(auto)]
+
 pub mod letter;
 pub mod line;
 mod reading;

@@ -1,17 +1,13 @@
 // What reading and writing come to together, for every kind of value with a text form.
 ghost use Rattle.std.specs.Prelude.{◌+◌, ◌*◌, ◌≤◌, length};
 ghost use Rattle.protocol.specs.declared.message.Message.{Message};
-ghost use Rattle.texts.specs.Layers.{layer_items};
 ghost use Rattle.texts.specs.Meters.{meter_items};
-ghost use Rattle.texts.specs.Pools.{pool_items};
 ghost use Rattle.lines.specs.Lines.{OneLine, ReadBack};
 ghost use Rattle.lines.specs.Messages.{line_of, message_items};
 
 use crate::line::{read, write};
 use fields::buffer::TooLong;
 use kinds::meter::Meter;
-use kinds::pool::Pool;
-use once::layer::Once;
 use protocol::message::Message;
 use texts::text::Text;
 
@@ -28,11 +24,6 @@ pub fn a_line_is_bounded_by_its_fields<T: Text>()
 // Every message about a meter has a line.
 pub fn every_line_of_a_meter_fits()
     ensures { (m : Message Meter) → length (line_of meter_items m) ≤ 1024 }
-{}
-
-// So has every message about permits, a pool under the once-only layer.
-pub fn every_line_of_permits_fits()
-    ensures { (m : Message (Once Pool)) → length (line_of (layer_items pool_items) m) ≤ 1024 }
 {}
 
 // Writes the line of a message and reads it again: what is read is the message.

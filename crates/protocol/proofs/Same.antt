@@ -1,10 +1,8 @@
 -- Two values of a type with ranges are the same where their numbers are: a range has one proof.
-use Rattle.std.proofs.Common.{◌≡◌, ℕ, ◌+◌, ◌^◌, ◌<◌, ◌≤◌, true, Some, None, refl, ap, ◌∙◌, arith}
+use Rattle.std.proofs.Common.{◌≡◌, ℕ, ◌+◌, ◌^◌, ◌≤◌, true, Some, None, refl, ap, arith}
 use mathlib.Core.HLevel.{is_prop→PathP, Π_prop}
 use native.Mathlib.Bridge.{le_prop}
 use native.Mathlib.Decide.{dec_le}
-use Rattle.protocol.specs.declared.answer.Answer.{Answer}
-use Rattle.protocol.specs.declared.kind.Applied.TheVariants.{Carried}
 use Rattle.protocol.specs.declared.message.Head.{Head}
 use Rattle.protocol.specs.declared.message.KeeperId.{KeeperId}
 use Rattle.protocol.specs.declared.message.Number.{Number}
@@ -28,12 +26,6 @@ same_number m k p = λ i. record {
   from = is_prop→PathP (λ j. 1 ≤ p j) (λ j. le_prop) m.from k.from i;
   within = is_prop→PathP (λ j. p j ≤ 2 ^ 40) (λ j. le_prop) m.within k.within i;
 }
-
-pub same_answer : (a b : Answer) → a.number ≡ b.number → a ≡ b
-same_answer a b p = λ i. record { number = p i; within = is_prop→PathP (λ j. p j < 2 ^ 32) (λ j. le_prop) a.within b.within i }
-
-pub same_carried : {V : Type 0} (v w : V) (a b : Answer) → v ≡ w → a.number ≡ b.number → Carried v a ≡ Carried w b
-same_carried v w a b p q = ap (λ x. Carried x a) p ∙ ap (Carried w) (same_answer a b q)
 
 pub same_keeper : (a b : KeeperId) → a.id ≡ b.id → a ≡ b
 same_keeper a b p = λ i. record { id = p i; within = is_prop→PathP (λ j. p j ≤ 6) (λ j. le_prop) a.within b.within i }

@@ -1,5 +1,5 @@
 -- What a store answers, over its records (one for each register) and whether it is open.
-use Rattle.std.specs.Prelude.{◌≡◌, ℕ, Bool, true, false, cond, List, length, is_ok, Some, None, Ok, Err, Option, Result, nat_le, slice_set}
+use Rattle.std.specs.Prelude.{◌≡◌, ℕ, Bool, true, false, cond, List, is_ok, Some, None, Ok, Err, Option, Result, nat_le, slice_set}
 use Rattle.std.specs.List.{slice_get}
 use Rattle.std.specs.Option.{ok_or}
 use Rattle.protocol.specs.declared.record.Record.{Record}
@@ -33,10 +33,4 @@ pub record Cleaned {S V : Type 0} (records : S → List (Record V)) (opened : S 
   pub cleans_in_its_way : is_ok r ≡ true → cleans before after
   pub every_record_stays : records after ≡ records before
   pub an_open_store_stays_open : opened before ≡ true → opened after ≡ true
-  pub a_refusal_changes_nothing : is_ok r ≡ false → after ≡ before
-
--- what a scratch holds after a cleaning is left open: it is as long as it was, and nothing more is said of
--- it; only a refused cleaning leaves it as it was
-pub record FreeScratch {E : Type 0} (before after : List E) (r : Result (Unit {0}) StoreRefusal) : Type 0 where
-  pub same_length : length after ≡ length before
   pub a_refusal_changes_nothing : is_ok r ≡ false → after ≡ before

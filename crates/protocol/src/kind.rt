@@ -3,16 +3,11 @@ ghost use Rattle.std.specs.Prelude.{◌≡◌};
 ghost use Rattle.protocol.specs.declared.kind.Applied.{Applied};
 ghost use Rattle.protocol.specs.Refusals.{denial_number};
 
-use crate::answer::Answer;
-
 // Why a command is denied: it is none that the kind knows, or the value does not allow it.
 #[derive(Clone, Copy)]
 pub enum Denial {
     CommandOutOfRange,
-    NoPermitFree,
-    NotTheHolder,
     TotalPassesTop,
-    NumberBelowLast,
 }
 
 impl Denial {
@@ -21,10 +16,7 @@ impl Denial {
     {
         match self {
             Denial::CommandOutOfRange => 1,
-            Denial::NoPermitFree => 2,
-            Denial::NotTheHolder => 3,
             Denial::TotalPassesTop => 4,
-            Denial::NumberBelowLast => 6,
         }
     }
 }
@@ -33,8 +25,8 @@ impl Denial {
 // the answer that it had; or denied.
 #[derive(Clone, Copy)]
 pub enum Applied<V> {
-    Carried(V, Answer),
-    Already(Answer),
+    Carried(V, u32),
+    Already(u32),
     Denied(Denial),
 }
 

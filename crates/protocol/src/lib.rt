@@ -1,6 +1,7 @@
-// The words that the whole library shares: rounds, records, messages, group sizes, answers, refusals,
+// The words that the whole library shares: rounds, records, messages, group sizes, refusals,
 // and the two traits that everything above is generic over, `Kind` and `Store`.
-pub mod answer;
+#![tactic(auto)]
+
 pub mod group;
 pub mod kind;
 pub mod making;

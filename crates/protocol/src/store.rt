@@ -1,7 +1,7 @@
 // Where a keeper keeps its records.
-ghost use Rattle.std.specs.Prelude.{◌≡◌, ℕ, Bool, true, false, List, length, is_ok};
+ghost use Rattle.std.specs.Prelude.{◌≡◌, ℕ, Bool, false, List, length, is_ok};
 ghost use Rattle.protocol.specs.declared.record.Record.{Record};
-ghost use Rattle.protocol.specs.Stores.{got, put_answer, records_after_put, Cleaned, FreeScratch};
+ghost use Rattle.protocol.specs.Stores.{got, put_answer, records_after_put, Cleaned};
 
 use crate::record::Record;
 use crate::refusal::StoreRefusal;
@@ -21,10 +21,7 @@ pub trait Store {
 
     ghost opened: { Self → Bool };
 
-    // What a put that is taken makes of it: the store before, the register, the record, the store after.
-    ghost puts: { Self → ℕ → Record Self.Value → Self → Type 0 };
-
-    // How long a scratch its cleaning needs, and what its cleaning makes of it.
+    // How long a scratch its cleaning needs, and what its cleaning leaves of it.
     ghost needed: { Self → ℕ };
 
     ghost cleans: { Self → Self → Type 0 };
@@ -36,11 +33,9 @@ pub trait Store {
     fn put(&mut self, register: u8, new: &Record<Self::Value>) -> Result<(), StoreRefusal>
         ensures answers { result ≡ put_answer (records self.old) (opened self.old) register }
         ensures replaces_that_record_only { records self.new ≡ records_after_put (is_ok result) (records self.old) register new.now }
-        ensures puts_in_its_way { is_ok result ≡ true → puts self.old register new.now self.new }
         ensures a_refusal_changes_nothing { is_ok result ≡ false → self.new ≡ self.old };
 
     // Makes room. It may open a shut store.
     fn clean(&mut self, scratch: &mut [Entry<Self::Value>]) -> Result<(), StoreRefusal>
-        ensures cleaned { Cleaned records opened needed cleans (length scratch.old) self.old self.new result }
-        ensures leaves_a_free_scratch { FreeScratch scratch.old scratch.new result };
+        ensures { Cleaned records opened needed cleans (length scratch.old) self.old self.new result };
 }

@@ -1,5 +1,5 @@
 -- The table store.
-use Rattle.std.specs.Prelude.{◌≡◌, ℕ, Bool, true, List, replicate, Ok, Err, vec_items, Result, slice_set}
+use Rattle.std.specs.Prelude.{◌≡◌, ℕ, Bool, true, List, replicate, Ok, Err, vec_items, Result}
 use Rattle.protocol.specs.Records.{new_record}
 use Rattle.protocol.specs.declared.record.Record.{Record}
 use Rattle.stores.specs.declared.making.NoStore.{NoStore}
@@ -14,10 +14,6 @@ table_records s = vec_items s.table
 -- and is never shut
 abbrev pub table_open : {V : Type 0} → TableStore V → Bool
 table_open s = true
-
--- a put replaces the record in the register's place
-abbrev pub TablePuts : {V : Type 0} → TableStore V → ℕ → Record V → TableStore V → Type 0
-TablePuts before register new after = table_records after ≡ slice_set (table_records before) register new
 
 -- its cleaning needs no scratch
 abbrev pub table_needed : {V : Type 0} → TableStore V → ℕ

@@ -1,7 +1,7 @@
 // The table store: one place for each register, always open.
 ghost use Rattle.std.specs.Prelude.{◌≡◌, length, replicate, IfOk};
-ghost use Rattle.protocol.specs.Stores.{Cleaned, FreeScratch};
-ghost use Rattle.stores.specs.Tables.{table_records, table_open, TablePuts, table_needed, TableCleans, MakesTable};
+ghost use Rattle.protocol.specs.Stores.{Cleaned};
+ghost use Rattle.stores.specs.Tables.{table_records, table_open, table_needed, TableCleans, MakesTable};
 
 use crate::making::NoStore;
 use protocol::kind::Kind;
@@ -48,8 +48,6 @@ impl<V: Copy> Store for TableStore<V> {
 
     ghost opened = { table_open };
 
-    ghost puts = { TablePuts };
-
     ghost needed = { table_needed };
 
     ghost cleans = { TableCleans };
@@ -75,7 +73,6 @@ impl<V: Copy> Store for TableStore<V> {
     // A table has nothing to clean, and needs no scratch for it.
     fn clean(&mut self, scratch: &mut [Entry<V>]) -> Result<(), StoreRefusal>
         ensures cleaned { Cleaned table_records table_open table_needed TableCleans (length scratch.old) self.old self.new result }
-        ensures leaves_a_free_scratch { FreeScratch scratch.old scratch.new result }
         ensures leaves_the_scratch_as_it_was { scratch.new ≡ scratch.old }
     {
         Ok(())

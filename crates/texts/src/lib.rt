@@ -1,7 +1,5 @@
 // The trait of values that travel in lines, and the text forms of the kinds.
-pub mod layer;
+#![tactic(auto)]
+
 pub mod meter;
-pub mod piece;
-pub mod pool;
-pub mod row;
 pub mod text;

@@ -2,7 +2,6 @@
 ghost use Rattle.kinds.specs.Meters.{MakesMeter, zero_meter, add_to};
 
 use crate::meter::{Add, Meter};
-use protocol::answer::Answer;
 use protocol::kind::{Applied, Denial, Kind};
 use protocol::refusal::OutOfRange;
 
@@ -42,6 +41,6 @@ impl Kind for Meter {
             return Applied::Denied(Denial::TotalPassesTop);
         }
         let total = self.total + amount;
-        Applied::Carried(Meter { total }, Answer { number: total })
+        Applied::Carried(Meter { total }, total)
     }
 }

@@ -16,4 +16,4 @@ loop-b-preserved c =
     one_more c.args.«field».now c.loop-b.b-index c.loop-b.n _ c.loop-b.invariant c.loop-b-test.true c.if-b-lt48.false c.if-b-gt57.false (omega (arith, c.min-n.ensures))
 
 pub returns : goal.returns
-returns c = all_read c.args.«field».now c.loop-b.b-index c.loop-b.n c.loop-b.invariant (omega arith) c.if-not-starts-well.ensures
+returns c = all_read c.args.«field».now c.loop-b.b-index c.loop-b.n c.loop-b.invariant (omega arith) c.if-not-starts_well.ensures

@@ -4,5 +4,5 @@ use Rattle.lines.proofs.line.write.Goals as goal
 
 pub returns : goal.returns
 returns g c =
-    let w = whole_line _ _ _ c.new-buffer.ensures c.write-line.ensures (omega arith) in
-    stands_first _ _ _ _ c.write-line.new.buffer.count _ (omega arith) w.0 w.1 (omega arith) (omega arith) c.copy-from-slice.ensures.after
+    let w = whole_line _ _ _ c.new-buffer.ensures c.write_line.ensures (omega arith) in
+    stands_first _ _ _ _ c.write_line.new.buffer.count _ (omega arith) w.0 w.1 (omega arith) (omega arith) c.copy_from_slice.ensures.after

@@ -4,8 +4,8 @@ use Rattle.fields.proofs.reader.Reader.next.Goals as goal
 
 pub returns : goal.returns
 returns c =
-    let f = c.field-end-to.ensures in
-    let t = c.token-of.ensures in
-    passed c.args.self.now _ c.token-of.result refl c.if-line-self-eq10.false
+    let f = c.field_end-to.ensures in
+    let t = c.token_of.ensures in
+    passed c.args.self.now _ c.token_of.result refl c.if-line-self-eq10.false
     (record { after = f.after; within = f.within; plain = f.plain; stops = f.stops })
     t.bytes t.at t.says

@@ -8,8 +8,7 @@ returns-then-place-len g c =
     let e = v.ok.0 in
     record {
       answers = rw (slice_get-get_or (vec_items v) c.args.register c.args.new.now (omega arith));
-      replaces-that-record-only = search rules;
-      puts-in-its-way = search rules;
+      replaces_that_record_only = search rules;
       a_refusal_changes_nothing = search rules;
     }
 
@@ -19,7 +18,6 @@ returns g c =
     let e = v.ok.0 in
     record {
       answers = rw (slice_get_past (vec_items v) c.args.register (omega arith));
-      replaces-that-record-only = refl;
-      puts-in-its-way = search rules;
+      replaces_that_record_only = refl;
       a_refusal_changes_nothing = λ _. refl;
     }
