@@ -1,6 +1,6 @@
 -- How a line is cut into fields, at its tabs (byte 9) and its line feed (byte 10).
 use Rattle.std.specs.Prelude.{◌≡◌, ℕ, ◌+◌, ◌-◌, ◌<◌, ◌≤◌, List, [], ◌∷◌, ◌++◌, length, ◌≢◌, slice_index, slice_index_or}
-use Rattle.std.specs.List.{AllByRecursion as All}
+use Rattle.std.specs.List.{AllByRecursion}
 
 -- a tab or a line feed
 abbrev pub Mark : ℕ → Type 0
@@ -19,7 +19,7 @@ pub record Framed (line : List ℕ) : Type 0 where
 
 -- the bytes of one field: no tab and no line feed
 abbrev pub Plain : List ℕ → Type 0
-Plain f = All (λ b. Mark b → ⊥) f
+Plain f = AllByRecursion (λ b. Mark b → ⊥) f
 
 -- a field ends here: the next byte is a tab or the line feed
 abbrev pub Ends : List ℕ → Type 0

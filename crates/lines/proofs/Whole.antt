@@ -1,6 +1,6 @@
 -- A line is the line of at most one message, and of none where a fault is.
 use Rattle.std.proofs.Common.{◌≡◌, ℕ, ◌-◌, ◌^◌, ◌<◌, ◌≤◌, Bool, true, false, List, [], ◌∷◌, ◌++◌, length, get_or, IsErrAnd, Ok, Err, Result, sym, refl, ap, ◌∙◌, subst, inl, inr, arith}
-use Rattle.std.specs.List.{AllByRecursion as All}
+use Rattle.std.specs.List.{AllByRecursion}
 use Rattle.std.proofs.ByRecursion.{All-append, All-get_or, All-weaker}
 use Rattle.std.proofs.lemmas.List.{get_or_push, get_or_append_left, length_push}
 use Rattle.protocol.specs.declared.message.Access.{Access}
@@ -26,7 +26,7 @@ use Rattle.lines.proofs.Same.{letter_same, message_same}
 
 -- the line feed is the last byte and the only one, where the bytes before it have none
 abbrev NoFeed : List ℕ → Type 0
-NoFeed xs = All (λ b. b ≡ 10 → ⊥) xs
+NoFeed xs = AllByRecursion (λ b. b ≡ 10 → ⊥) xs
 
 closed_feed : (xs : List ℕ) → NoFeed xs → Closed (xs ++ (10 ∷ []))
 closed_feed xs h =

@@ -31,4 +31,7 @@ store_reason store.ShortScratch = reason.NoRoom
 -- the number of a denial: these count by themselves
 abbrev pub denial_number : Denial → ℕ
 denial_number denial.CommandOutOfRange = 1
+denial_number denial.NoPermitFree = 2
+denial_number denial.NotTheHolder = 3
 denial_number denial.TotalPassesTop = 4
+denial_number denial.NumberBelowLast = 6

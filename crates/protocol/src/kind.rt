@@ -7,7 +7,10 @@ ghost use Rattle.protocol.specs.Refusals.{denial_number};
 #[derive(Clone, Copy)]
 pub enum Denial {
     CommandOutOfRange,
+    NoPermitFree,
+    NotTheHolder,
     TotalPassesTop,
+    NumberBelowLast,
 }
 
 impl Denial {
@@ -16,7 +19,10 @@ impl Denial {
     {
         match self {
             Denial::CommandOutOfRange => 1,
+            Denial::NoPermitFree => 2,
+            Denial::NotTheHolder => 3,
             Denial::TotalPassesTop => 4,
+            Denial::NumberBelowLast => 6,
         }
     }
 }

@@ -1,13 +1,12 @@
 -- Commands that are carried one after another.
-use Rattle.std.specs.Prelude.{◌≡◌, List, [], ◌∷◌}
-use Rattle.protocol.specs.declared.answer.Answer.{Answer}
+use Rattle.std.specs.Prelude.{◌≡◌, ℕ, List, [], ◌∷◌}
 use Rattle.protocol.specs.declared.kind.Applied.{Applied}
 use Rattle.protocol.specs.declared.kind.Applied.TheVariants.{Carried}
 
 -- a command, and the answer that it was given
 pub record Done (C : Type 0) : Type 0 where
   pub command : C
-  pub answer : Answer
+  pub answer : ℕ
 
 -- from a value, the commands of a list, the newest first, lead to a value: each is carried where its turn
 -- comes, with its answer
