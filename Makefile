@@ -7,11 +7,11 @@
 run:
 	@mkdir -p target
 	@echo "Proving and building what the keeper program needs .."
-	@rt check keeper_program > target/run.log 2>&1 || { tail -20 target/run.log; exit 1; }
-	@tail -1 target/run.log
+	@(cd crates/keeper_program && rt run < /dev/null) > target/run.log 2>&1 || { tail -20 target/run.log; exit 1; }
+	@grep '^logic=' target/run.log | tail -1
 	@echo "Keeper 0 of three, four meters. Each line that comes in, and what it writes (tabs shown as spaces):"
 	@head -5 crates/keeper_program/stdin > target/sample
-	@target/bin/keeper_program < target/sample | paste -d '~' target/sample - | sed 's/\t/ /g; s/^/  /; s/~/   ->   /'
+	@crates/keeper_program/out/keeper_program < target/sample | paste -d '~' target/sample - | sed 's/\t/ /g; s/^/  /; s/~/   ->   /'
 
 test:
 	@.ci/run

@@ -7,9 +7,9 @@ count=${1:-1000000}
 work=$(mktemp -d)
 trap 'rm -rf "$work"' EXIT
 
-(cd .. && rt check keeper_program > "$work/check.log" 2>&1) || { tail -5 "$work/check.log"; exit 1; }
+(cd ../crates/keeper_program && rt run < /dev/null > "$work/check.log" 2>&1) || { tail -5 "$work/check.log"; exit 1; }
 cargo build --quiet --release --offline --manifest-path rust_keeper/Cargo.toml --target-dir "$work/rust"
-proved=../target/bin/keeper_program
+proved=../crates/keeper_program/out/keeper_program
 plain=$work/rust/release/rust_keeper
 python3 make_lines.py "$count" 7 > "$work/lines"
 

@@ -29,6 +29,7 @@ NAMES = """
     latest-entries-stay latest-hit latest-if latest-kept latest-miss latest-push layer-form layer-items
     length-records letter-high letter-item letter-same line-short line-there majority-of making-stays
     meets-plain message-fits message-form message-items message-same meter-25 meter-form meter-items
+    meter-line-short
     nearest-after new-layer new-pool new-pool-after new-record new-sessions next-in next-is next-none
     next-some next-within no-digit-alone no-entry no-fall no-fault no-feed no-flat no-nearer no-permit
     no-session no-store-reason no-write-twice no-writer not-below not-in-range noted-last noted-wrote

@@ -39,8 +39,8 @@ few_fields (body.Vote n v) = omega arith
 few_fields (body.State s) = omega arith
 few_fields (body.Voted k n) = omega arith
 
-pub meter-line-short : ((v : Meter) → Fit meter_form (meter_items v)) → (m : Message Meter) → length (line_of meter_items m) ≤ 1024
-meter-line-short fits m =
+pub meter_line_short : ((v : Meter) → Fit meter_form (meter_items v)) → (m : Message Meter) → length (line_of meter_items m) ≤ 1024
+meter_line_short fits m =
     let a = line_short meter_form meter_items fits m in
     let b = few_fields m.body in
     omega arith
