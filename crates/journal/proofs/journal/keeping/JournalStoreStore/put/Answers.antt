@@ -9,8 +9,8 @@ returns-then-register-self g c =
     let s = c.args.self.now in
     record {
       answers = rw (records_past s c.args.register (omega arith));
-      replaces-that-record-only = refl;
-      puts-in-its-way = search rules;
+      replaces_that_record_only = refl;
+      puts_in_its_way = search rules;
       a_refusal_changes_nothing = λ _. refl;
     }
 
@@ -20,8 +20,8 @@ returns-then-len-self g c =
     let shut : journal_open s ≡ false = le-ltb _ _ (omega arith) in
     record {
       answers = rw (records_at s c.args.register (omega arith), shut);
-      replaces-that-record-only = refl;
-      puts-in-its-way = search rules;
+      replaces_that_record_only = refl;
+      puts_in_its_way = search rules;
       a_refusal_changes_nothing = λ _. refl;
     }
 
@@ -31,7 +31,7 @@ returns g c =
     let free : journal_open s ≡ true = lt-ltb _ _ (omega arith) in
     record {
       answers = rw (records_at s c.args.register (omega arith), free);
-      replaces-that-record-only = records_put s c.args.register c.args.new.now c.add.new.self (omega arith) c.add.ensures;
-      puts-in-its-way = λ _. c.add.ensures;
+      replaces_that_record_only = records_put s c.args.register c.args.new.now c.add.new.self (omega arith) c.add.ensures;
+      puts_in_its_way = λ _. c.add.ensures;
       a_refusal_changes_nothing = search rules;
     }

@@ -1,8 +1,9 @@
 -- The journal store.
-use Rattle.std.specs.Prelude.{◌≡◌, ℕ, ◌+◌, ◌≤◌, Bool, true, false, cond, ◌||◌, List, [], ◌∷◌, ◌++◌, map, replicate, Ok, Err, vec_items, vec_len, Result, ◌==◌, nat_lt}
+use Rattle.std.specs.Prelude.{◌≡◌, ℕ, ◌+◌, ◌≤◌, Bool, true, false, cond, ◌||◌, List, [], ◌∷◌, ◌++◌, map, replicate, length, is_ok, Ok, Err, vec_items, vec_len, Result, ◌==◌, nat_lt}
 use Rattle.std.specs.List.{range_with_len}
 use Rattle.protocol.specs.Records.{new_record}
 use Rattle.protocol.specs.declared.record.Record.{Record}
+use Rattle.protocol.specs.declared.refusal.StoreRefusal.{StoreRefusal}
 use Rattle.protocol.specs.declared.store.Entry.{Entry}
 use Rattle.stores.specs.Making.{RegisterCount}
 use Rattle.stores.specs.declared.making.NoStore.{NoStore}
@@ -55,6 +56,12 @@ journal_needed s = s.registers
 pub record JournalCleans {V : Type 0} (before after : JournalStore V) : Type 0 where
   pub latest_entries_stay : vec_items after.entries ≡ kept (vec_items before.entries)
   pub making_stays : SameMaking before after
+
+-- what a scratch holds after a cleaning is left open: it is as long as it was, and nothing more is said of
+-- it; only a refused cleaning leaves it as it was
+pub record FreeScratch {E : Type 0} (before after : List E) (r : Result (Unit {0}) StoreRefusal) : Type 0 where
+  pub same_length : length after ≡ length before
+  pub a_refusal_changes_nothing : is_ok r ≡ false → after ≡ before
 
 -- the numbers of places that a journal for so many registers may have
 abbrev pub PlaceCount : ℕ → ℕ → Type 0

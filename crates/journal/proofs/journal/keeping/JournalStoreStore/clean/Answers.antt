@@ -17,9 +17,9 @@ returns g c =
         an_open_store_stays_open = λ _. open_cleaned s after e;
         a_refusal_changes_nothing = search rules;
       };
-      leaves-a-free-scratch = record {
+      leaves_a_free_scratch = record {
         same_length = c.compact.ensures.same_length;
         a_refusal_changes_nothing = search rules;
       };
-      is-open-after-a-cleaning = λ _. open_cleaned s after e;
+      is_open_after_a_cleaning = λ _. open_cleaned s after e;
     }

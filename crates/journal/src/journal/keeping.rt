@@ -1,7 +1,7 @@
 // A journal store as a store: it gets, puts and cleans.
-ghost use Rattle.std.specs.Prelude.{◌≡◌, ◌<◌, true, length, is_ok, vec_len};
-ghost use Rattle.protocol.specs.Stores.{Cleaned, FreeScratch};
-ghost use Rattle.journal.specs.Journals.{latest, journal_records, journal_open, JournalPuts, journal_needed, JournalCleans};
+ghost use Rattle.std.specs.Prelude.{◌≡◌, ◌<◌, true, false, length, is_ok, vec_len};
+ghost use Rattle.protocol.specs.Stores.{put_answer, records_after_put, Cleaned};
+ghost use Rattle.journal.specs.Journals.{latest, journal_records, journal_open, JournalPuts, journal_needed, JournalCleans, FreeScratch};
 
 use crate::journal::JournalStore;
 use protocol::record::Record;
@@ -38,8 +38,6 @@ impl<V: Copy> Store for JournalStore<V> {
 
     ghost opened = { journal_open };
 
-    ghost puts = { JournalPuts };
-
     ghost needed = { journal_needed };
 
     ghost cleans = { JournalCleans };
@@ -52,7 +50,12 @@ impl<V: Copy> Store for JournalStore<V> {
         }
     }
 
-    fn put(&mut self, register: u8, new: &Record<V>) -> Result<(), StoreRefusal> {
+    fn put(&mut self, register: u8, new: &Record<V>) -> Result<(), StoreRefusal>
+        ensures answers { result ≡ put_answer (journal_records self.old) (journal_open self.old) register }
+        ensures replaces_that_record_only { journal_records self.new ≡ records_after_put (is_ok result) (journal_records self.old) register new.now }
+        ensures a_refusal_changes_nothing { is_ok result ≡ false → self.new ≡ self.old }
+        ensures puts_in_its_way { is_ok result ≡ true → JournalPuts self.old register new.now self.new }
+    {
         if register >= self.registers {
             return Err(StoreRefusal::UnknownRegister);
         }
