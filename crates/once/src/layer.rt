@@ -1,8 +1,6 @@
 // What the layer keeps beside the value below, and what it is asked.
 ghost use Rattle.std.specs.Prelude.{◌≡◌, ◌^◌, ◌≤◌, length};
 
-use protocol::answer::Answer;
-
 pub mod rules;
 pub mod table;
 pub mod theorems;
@@ -12,7 +10,7 @@ pub mod theorems;
 #[derive(Clone, Copy)]
 pub struct Session {
     pub number: u64,
-    pub answer: Answer,
+    pub answer: u32,
     ghost number_within: { number ≤ 2 ^ 40 },
 }
 

@@ -3,12 +3,11 @@ ghost use Rattle.std.specs.Prelude.{◌≡◌};
 ghost use Rattle.once.specs.Layers.{new_layer, once_applies, carried_by, noting};
 
 use crate::layer::{Once, Request, Sessions, Writer};
-use protocol::answer::Answer;
 use protocol::kind::{Applied, Denial, Kind};
 
 impl<K: Kind> Once<K> {
     // The layer after a write that was carried: the value below, and the writer's new entry.
-    fn carry(&self, writer: Writer, below: K, answer: Answer) -> Applied<Once<K>>
+    fn carry(&self, writer: Writer, below: K, answer: u32) -> Applied<Once<K>>
         ensures { result ≡ carried_by self.now writer below answer }
     {
         let mut sessions = self.sessions;

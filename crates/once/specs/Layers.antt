@@ -1,7 +1,6 @@
 -- The rules of the once-only layer, over the rules of the kind below.
-use Rattle.std.specs.Prelude.{◌≡◌, ℕ, ◌-◌, ◌^◌, ◌≤◌, cond, replicate, Some, None, Option, ◌==◌, nat_lt, slice_index_or, slice_set, refl}
+use Rattle.std.specs.Prelude.{ℕ, ◌-◌, ◌^◌, cond, replicate, Some, None, Option, ◌==◌, nat_lt, slice_index_or, slice_set, refl}
 use Rattle.std.proofs.Common.{length-set, ◌∙◌, arith}
-use Rattle.protocol.specs.declared.answer.Answer.{Answer}
 use Rattle.protocol.specs.declared.kind.Applied.{Applied}
 use Rattle.protocol.specs.declared.kind.Applied.TheVariants.{Carried, Already, Denied}
 use Rattle.protocol.specs.declared.kind.Denial.TheVariants.{CommandOutOfRange, NumberBelowLast}
@@ -14,7 +13,7 @@ use Rattle.once.specs.declared.layer.Writer.{Writer}
 
 -- a hub that wrote nothing yet
 abbrev pub no_session : Session
-no_session = record { number = 0; answer = record { number = 0; within = omega arith }; number_within = omega arith }
+no_session = record { number = 0; answer = 0; number_within = omega arith }
 
 -- in the beginning no hub wrote anything
 unfoldable pub new_sessions : Sessions
@@ -37,14 +36,14 @@ abbrev pub session_of : Sessions → ℕ → Session
 session_of s hub = slice_index_or s.table (hub - 1) no_session
 
 -- the writer's entry replaced, and no other
-abbrev pub noted : Sessions → Writer → Answer → Sessions
+abbrev pub noted : Sessions → Writer → ℕ → Sessions
 noted s w answer = record {
   table = slice_set s.table (w.hub - 1) (record { number = w.number; answer = answer; number_within = w.number_within });
   whole = length-set s.table (w.hub - 1) (record { number = w.number; answer = answer; number_within = w.number_within }) ∙ s.whole;
 }
 
 -- a write that is carried: the value below after it, and the writer's new entry
-abbrev pub carried_by : {K : Type 0} → Once K → Writer → K → Answer → Applied (Once K)
+abbrev pub carried_by : {K : Type 0} → Once K → Writer → K → ℕ → Applied (Once K)
 carried_by v w below answer = Carried (record { sessions = noted v.sessions w answer; below = below }) answer
 
 -- what comes of what came below: unless that was denied, the write is carried, with the answer from below

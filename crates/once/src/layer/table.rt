@@ -3,7 +3,6 @@ ghost use Rattle.std.specs.Prelude.{◌≡◌};
 ghost use Rattle.once.specs.Layers.{no_session, new_sessions, session_of, noted, writer_of};
 
 use crate::layer::{Session, Sessions, Writer};
-use protocol::answer::Answer;
 use protocol::making::TOP;
 
 impl Writer {
@@ -26,7 +25,7 @@ impl Session {
     {
         Session {
             number: 0,
-            answer: Answer { number: 0 },
+            answer: 0,
         }
     }
 }
@@ -48,7 +47,7 @@ impl Sessions {
     }
 
     // Replaces the writer's entry, and no other.
-    pub(crate) fn note(&mut self, writer: Writer, answer: Answer)
+    pub(crate) fn note(&mut self, writer: Writer, answer: u32)
         ensures { self.new ≡ noted self.old writer answer }
     {
         let number = writer.number;

@@ -1,5 +1,5 @@
 -- Every write counts once: a hub's entry follows its requests through a history.
-use Rattle.std.proofs.Common.{◌≡◌, ℕ, ◌-◌, ◌^◌, ◌<◌, ◌≤◌, Bool, true, false, cond, eqb, ltb, List, [], ◌∷◌, ◌++◌, get_or, Some, None, Option, sym, refl, ap, ◌∙◌, subst, ⊎_elim, arith}
+use Rattle.std.proofs.Common.{◌≡◌, ℕ, ◌-◌, ◌^◌, ◌≤◌, Bool, true, false, cond, eqb, ltb, List, [], ◌∷◌, ◌++◌, Some, None, Option, sym, refl, ap, ◌∙◌, subst, ⊎_elim, arith}
 use Rattle.std.proofs.lemmas.List.{get_or-replicate}
 use Rattle.std.proofs.lemmas.Bool.{eqb-true, eqb-false, eq-eqb, le-ltb, cases_eq}
 use Rattle.protocol.specs.declared.kind.Applied.{Applied}
@@ -10,7 +10,7 @@ use Rattle.once.specs.declared.layer.Once.{Once}
 use Rattle.once.specs.declared.layer.Request.{Request}
 use Rattle.once.specs.declared.layer.Session.{Session}
 use Rattle.once.specs.declared.layer.Writer.{Writer}
-use Rattle.once.specs.Layers.{no_session, new_sessions, new_layer, writer_of, session_of, writing, once_applies}
+use Rattle.once.specs.Layers.{no_session, new_sessions, new_layer, session_of, writing, once_applies}
 use Rattle.once.specs.Writes.{last_by, EntryOf, EntriesAreLastWrites, NumbersGrow, NoWriteTwice, RepeatsAreAnswered}
 use Rattle.once.proofs.Same.{is_writer}
 use Rattle.once.proofs.Requests.{Wrote, wrote}

@@ -3,7 +3,6 @@ use Rattle.std.proofs.Common.{◌≡◌, ℕ, ◌^◌, ◌≤◌, List, length, 
 use mathlib.Core.HLevel.{is_prop→PathP}
 use native.Mathlib.Bridge.{le_prop}
 use native.Mathlib.Nat.{ℕ_set}
-use Rattle.protocol.proofs.Same.{same_answer}
 use Rattle.protocol.specs.Ranges.{Within, within?}
 use Rattle.once.specs.declared.layer.Session.{Session}
 use Rattle.once.specs.declared.layer.Sessions.{Sessions}
@@ -21,8 +20,8 @@ pub same_sessions : (a b : Sessions) → a.table ≡ b.table → a ≡ b
 same_sessions a b p = λ i. record { table = p i; whole = is_prop→PathP (λ j. length (p j) ≡ 15) (λ j. ℕ_set (length (p j)) 15) a.whole b.whole i }
 
 -- one entry replaced, by the same numbers in the same place
-pub same_entry : (t : List Session) (i j : ℕ) (a b : Session) → i ≡ j → a.number ≡ b.number → a.answer.number ≡ b.answer.number → set t i a ≡ set t j b
-same_entry t i j a b p q r = ap (λ k. set t k a) p ∙ ap (set t j) (same_session a b q (same_answer a.answer b.answer r))
+pub same_entry : (t : List Session) (i j : ℕ) (a b : Session) → i ≡ j → a.number ≡ b.number → a.answer ≡ b.answer → set t i a ≡ set t j b
+same_entry t i j a b p q r = ap (λ k. set t k a) p ∙ ap (set t j) (same_session a b q r)
 
 same_writer : (v w : Writer) → v.hub ≡ w.hub → v.number ≡ w.number → v ≡ w
 same_writer v w p q = λ i. record {

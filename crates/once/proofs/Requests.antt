@@ -1,12 +1,10 @@
 -- What a request comes to, by its number.
-use Rattle.std.proofs.Common.{◌≡◌, ℕ, ◌-◌, ◌^◌, ◌<◌, ◌≤◌, Bool, true, false, cond, eqb, ltb, length, get_or, set, Some, None, Option, sym, refl, ap, ◌∙◌, subst, arith}
+use Rattle.std.proofs.Common.{◌≡◌, ℕ, ◌-◌, ◌^◌, ◌<◌, ◌≤◌, Bool, true, false, cond, eqb, ltb, Some, None, Option, sym, refl, ap, ◌∙◌, subst, arith}
 use Rattle.std.proofs.lemmas.List.{get_or-set_same, get_or-set_other}
-use Rattle.std.proofs.lemmas.Bool.{le-ltb, ne_eqb, eq-eqb, ltb-false, eqb-false}
-use Rattle.protocol.specs.declared.answer.Answer.{Answer}
+use Rattle.std.proofs.lemmas.Bool.{le-ltb, ne_eqb, ltb-false, eqb-false}
 use Rattle.protocol.specs.declared.kind.Applied.{Applied}
 use Rattle.protocol.specs.declared.kind.Applied.TheVariants.{Carried, Already, Denied}
 use Rattle.protocol.specs.declared.kind.Denial.TheVariants.{NumberBelowLast}
-use Rattle.protocol.proofs.Same.{same_answer}
 use Rattle.protocol.specs.Ranges.{Within, within?}
 use Rattle.once.specs.declared.layer.Once.{Once}
 use Rattle.once.specs.declared.layer.Request.{Request}
@@ -16,9 +14,9 @@ use Rattle.once.specs.declared.layer.Writer.{Writer}
 use Rattle.once.specs.Layers.{no_session, writer_in, writer_of, session_of, noted, carried_by, noting, writing, once_applies}
 
 -- a table in which this answer was noted
-pub carried_with : {K : Type 0} (v : Once K) (w : Writer) (below : K) (answer stored : Answer) (s : Sessions) → s ≡ noted v.sessions w stored → stored.number ≡ answer.number → Carried (record { sessions = s; below = below }) answer ≡ carried_by v w below answer
+pub carried_with : {K : Type 0} (v : Once K) (w : Writer) (below : K) (answer stored : ℕ) (s : Sessions) → s ≡ noted v.sessions w stored → stored ≡ answer → Carried (record { sessions = s; below = below }) answer ≡ carried_by v w below answer
 carried_with v w below answer stored s e n =
-    let t = e ∙ ap (noted v.sessions w) (same_answer stored answer n) in
+    let t = e ∙ ap (noted v.sessions w) n in
     λ i. Carried (record { sessions = t i; below = below }) answer
 
 module _ {K C : Type 0} (applies : K → C → Applied K) where
@@ -31,7 +29,7 @@ module _ {K C : Type 0} (applies : K → C → Applied K) where
       e ∙ ap (noting v w) c ∙ here ∙ ap (writing applies v r.command) is
 
 -- what a request that is carried left in the table
-pub record Wrote (before after : Sessions) (hub number : ℕ) (answer : Answer) : Type 0 where
+pub record Wrote (before after : Sessions) (hub number : ℕ) (answer : ℕ) : Type 0 where
   pub from : 1 ≤ hub
   pub to : hub ≤ 15
   pub above : (session_of before hub).number < number
@@ -52,7 +50,7 @@ writer_is hub number w e = by (within? 1 15 hub) (within? 1 (2 ^ 40) number) e
     by (no h) f e = let z : ◌≡◌ {A = ℕ} 0 1 = cc in absurd (omega arith)
 
 -- the table with one entry replaced
-noted_wrote : (s : Sessions) (w : Writer) (answer : Answer) → (session_of s w.hub).number < w.number → Wrote s (noted s w answer) w.hub w.number answer
+noted_wrote : (s : Sessions) (w : Writer) (answer : ℕ) → (session_of s w.hub).number < w.number → Wrote s (noted s w answer) w.hub w.number answer
 noted_wrote s w answer above =
     let low = w.hub_from in
     let top = w.hub_within in
@@ -69,7 +67,7 @@ noted_wrote s w answer above =
       others_stay = λ h l apart. get_or-set_other s.table (w.hub - 1) (h - 1) entry no_session (λ z. apart (omega arith));
     }
 
-module _ {K C : Type 0} (applies : K → C → Applied K) (v after : Once K) (answer : Answer) where
+module _ {K C : Type 0} (applies : K → C → Applied K) (v after : Once K) (answer : ℕ) where
   settled : (w : Writer) (came : Applied K) → (session_of v.sessions w.hub).number < w.number → noting v w came ≡ Carried after answer → Wrote v.sessions after.sessions w.hub w.number answer
   settled w (Carried below a) above e =
       let s : record { sessions = noted v.sessions w a; below = below } ≡ after = cc in
