@@ -1,7 +1,7 @@
 -- What a request comes to, by its number.
-use Rattle.std.proofs.Common.{◌≡◌, ℕ, ◌-◌, ◌^◌, ◌<◌, ◌≤◌, Bool, true, false, cond, eqb, ltb, Some, None, Option, sym, refl, ap, ◌∙◌, subst, arith}
+use Rattle.std.proofs.Common.{◌≡◌, ℕ, ◌-◌, ◌^◌, ◌<◌, ◌≤◌, Bool, true, false, cond, eqb, ltb, Some, None, Option, sym, refl, ap, subst, arith}
 use Rattle.std.proofs.lemmas.List.{get_or-set_same, get_or-set_other}
-use Rattle.std.proofs.lemmas.Bool.{le-ltb, ne_eqb, ltb-false, eqb-false}
+use Rattle.std.proofs.lemmas.Bool.{ltb-false, eqb-false}
 use Rattle.protocol.specs.declared.kind.Applied.{Applied}
 use Rattle.protocol.specs.declared.kind.Applied.TheVariants.{Carried, Already, Denied}
 use Rattle.protocol.specs.declared.kind.Denial.TheVariants.{NumberBelowLast}
@@ -11,25 +11,10 @@ use Rattle.once.specs.declared.layer.Request.{Request}
 use Rattle.once.specs.declared.layer.Session.{Session}
 use Rattle.once.specs.declared.layer.Sessions.{Sessions}
 use Rattle.once.specs.declared.layer.Writer.{Writer}
-use Rattle.once.specs.Layers.{no_session, writer_in, writer_of, session_of, noted, carried_by, noting, writing, once_applies}
-
--- a table in which this answer was noted
-pub carried_with : {K : Type 0} (v : Once K) (w : Writer) (below : K) (answer stored : ℕ) (s : Sessions) → s ≡ noted v.sessions w stored → stored ≡ answer → Carried (record { sessions = s; below = below }) answer ≡ carried_by v w below answer
-carried_with v w below answer stored s e n =
-    let t = e ∙ ap (noted v.sessions w) n in
-    λ i. Carried (record { sessions = t i; below = below }) answer
-
-module _ {K C : Type 0} (applies : K → C → Applied K) where
-  -- a number above the hub's last is applied below
-  pub applied_below : (v : Once K) (r : Request C) (w : Writer) (came : Applied K) (result : Applied (Once K)) → Some w ≡ writer_of r.hub r.number → (session_of v.sessions w.hub).number < w.number → came ≡ applies v.below r.command → result ≡ noting v w came → result ≡ once_applies applies v r
-  applied_below v r w came result is above c e =
-      let not_below : ltb w.number (session_of v.sessions w.hub).number ≡ false = le-ltb _ _ (omega arith) in
-      let not_last : eqb w.number (session_of v.sessions w.hub).number ≡ false = ne_eqb _ _ (λ z. omega arith) in
-      let here : noting v w (applies v.below r.command) ≡ writing applies v r.command (Some w) = rw (not_below, not_last) in
-      e ∙ ap (noting v w) c ∙ here ∙ ap (writing applies v r.command) is
+use Rattle.once.specs.Layers.{no_session, writer_in, writer_of, session_of, noted, noting, writing, once_applies}
 
 -- what a request that is carried left in the table
-pub record Wrote (before after : Sessions) (hub number : ℕ) (answer : ℕ) : Type 0 where
+pub record Wrote (before after : Sessions) (hub number answer : ℕ) : Type 0 where
   pub from : 1 ≤ hub
   pub to : hub ≤ 15
   pub above : (session_of before hub).number < number
