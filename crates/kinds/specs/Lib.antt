@@ -1,1 +1,3 @@
 pub mod Meters
+pub mod Pools
+pub mod Grants

@@ -2,3 +2,4 @@
 #![tactic(auto)]
 
 pub mod meter;
+pub mod pool;

@@ -9,7 +9,7 @@ use Rattle.kinds.specs.Pools.{pool_applies}
 -- the flat took this permit: that is the answer it was given
 pub record Grants (flat permit : ℕ) (d : Done PoolCommand) : Type 0 where
   pub takes : d.command ≡ Take flat
-  pub answers : d.answer.number ≡ permit
+  pub answers : d.answer ≡ permit
 
 -- the flat gave this permit back
 abbrev pub GivesBack : ℕ → ℕ → Done PoolCommand → Type 0

@@ -7,4 +7,4 @@ pub returns : goal.returns
 returns c =
     let pool = c.args.self.now in
     let rule = as_ruled pool c.search.result _ _ c.search.ensures (omega arith) (omega arith) in
-    record { follows-the-rule = rule; is-the-nearest-free-one = subst (NearestFree pool) (sym rule) (nearest pool) }
+    record { follows_the_rule = rule; is_the_nearest_free_one = subst (NearestFree pool) (sym rule) (nearest pool) }

@@ -2,7 +2,6 @@
 use Rattle.std.proofs.Common.{◌≡◌, ℕ, ◌-◌, ◌<◌, ◌≤◌, Bool, true, false, cond, eqb, ◌⊎◌, List, [], ◌∷◌, ◌++◌, length, get_or, set, Some, None, Option, sym, refl, ap, ◌∙◌, subst, inl, inr, ⊎_elim, arith}
 use Rattle.std.proofs.lemmas.List.{get_or-set_same, get_or-set_other}
 use Rattle.std.proofs.lemmas.Bool.{eqb-true, cases_eq}
-use Rattle.protocol.specs.declared.answer.Answer.{Answer}
 use Rattle.protocol.specs.declared.kind.Applied.{Applied}
 use Rattle.protocol.specs.declared.kind.Applied.TheVariants.{Carried, Denied}
 use Rattle.protocol.specs.declared.kind.Denial.TheVariants.{NotTheHolder}
@@ -44,11 +43,10 @@ permit_is n p e = by (within? 1 32 n) e
     by (yes h) e = let s : record { number = n; from = h.0; within = h.1 } ≡ p = cc in ap (λ (x : Permit). x.number) (sym s)
     by (no h) e = let z : ◌≡◌ {A = ℕ} 0 1 = cc in absurd (omega arith)
 
-took_by : (pool after : Pool) (f : Holder) (flat : ℕ) (a : Answer) → f.flat ≡ flat → 1 ≤ flat → (o : Option Permit) → NearestFree pool o → granting pool f o ≡ Carried after a → Took pool after flat a.number
+took_by : (pool after : Pool) (f : Holder) (flat : ℕ) (a : ℕ) → f.flat ≡ flat → 1 ≤ flat → (o : Option Permit) → NearestFree pool o → granting pool f o ≡ Carried after a → Took pool after flat a
 took_by pool after f flat a is real (Some p) near e =
     let s : granted pool p f ≡ after = cc in
-    let same : record { number = p.number; within = omega (arith, p.within) } ≡ a = cc in
-    let n = ap (λ (x : Answer). x.number) same in
+    let n : p.number ≡ a = cc in
     record {
       real = real;
       from = omega (arith, p.from);
@@ -60,10 +58,10 @@ took_by pool after f flat a is real (Some p) near e =
     }
 took_by pool after f flat a is real None near e = let z : ◌≡◌ {A = ℕ} 0 1 = cc in absurd (omega arith)
 
-took : (pool after : Pool) (flat : ℕ) (a : Answer) → pool_applies pool (Take flat) ≡ Carried after a → Took pool after flat a.number
+took : (pool after : Pool) (flat : ℕ) (a : ℕ) → pool_applies pool (Take flat) ≡ Carried after a → Took pool after flat a
 took pool after flat a e = by (flat_numbered flat) refl e
   where
-    by : (o : Option Holder) → flat_numbered flat ≡ o → take_by pool o ≡ Carried after a → Took pool after flat a.number
+    by : (o : Option Holder) → flat_numbered flat ≡ o → take_by pool o ≡ Carried after a → Took pool after flat a
     by (Some f) s e = let r = flat_is flat f s in took_by pool after f flat a r.0 r.1 (first_free pool) (nearest pool) e
     by None s e = let z : ◌≡◌ {A = ℕ} 0 1 = cc in absurd (omega arith)
 
@@ -73,7 +71,7 @@ record Gave (pool after : Pool) (flat permit : ℕ) : Type 0 where
   was_his : flat_holding pool permit ≡ flat
   now : after.holders ≡ set pool.holders (permit - 1) nobody
 
-gave_if : (b : Bool) (pool after : Pool) (p : Permit) (f : Holder) (flat permit : ℕ) (a : Answer) → p.number ≡ permit → f.flat ≡ flat → eqb (holder_of pool p).flat f.flat ≡ b → cond b (Carried (given_back pool p) (count_of (given_back pool p))) (Denied NotTheHolder) ≡ Carried after a → Gave pool after flat permit
+gave_if : (b : Bool) (pool after : Pool) (p : Permit) (f : Holder) (flat permit : ℕ) (a : ℕ) → p.number ≡ permit → f.flat ≡ flat → eqb (holder_of pool p).flat f.flat ≡ b → cond b (Carried (given_back pool p) (count_of (given_back pool p))) (Denied NotTheHolder) ≡ Carried after a → Gave pool after flat permit
 gave_if true pool after p f flat permit a is his t e =
     let s : given_back pool p ≡ after = cc in
     record {
@@ -83,7 +81,7 @@ gave_if true pool after p f flat permit a is his t e =
     }
 gave_if false pool after p f flat permit a is his t e = let z : ◌≡◌ {A = ℕ} 0 1 = cc in absurd (omega arith)
 
-gave : (pool after : Pool) (flat permit : ℕ) (a : Answer) → pool_applies pool (GiveBack permit flat) ≡ Carried after a → Gave pool after flat permit
+gave : (pool after : Pool) (flat permit : ℕ) (a : ℕ) → pool_applies pool (GiveBack permit flat) ≡ Carried after a → Gave pool after flat permit
 gave pool after flat permit a e = by (permit_numbered permit) (flat_numbered flat) refl refl e
   where
     by : (o : Option Permit) (q : Option Holder) → permit_numbered permit ≡ o → flat_numbered flat ≡ q → give_back_by pool o q ≡ Carried after a → Gave pool after flat permit
@@ -97,10 +95,10 @@ others_stay pool after h changed permit f g apart e =
     ap (λ l. (get_or l (permit - 1) nobody).flat) e ∙ ap (λ (x : Holder). x.flat) (get_or-set_other pool.holders (changed - 1) (permit - 1) h nobody (λ z. apart (omega arith)))
 
 module _ (flat permit : ℕ) (real : 1 ≤ flat) (from : 1 ≤ permit) where
-  step : (pool after : Pool) (c : PoolCommand) (a : Answer) → pool_applies pool c ≡ Carried after a → flat_holding pool permit ≡ flat → (c ≡ GiveBack permit flat) ⊎ (flat_holding after permit ≡ flat)
+  step : (pool after : Pool) (c : PoolCommand) (a : ℕ) → pool_applies pool c ≡ Carried after a → flat_holding pool permit ≡ flat → (c ≡ GiveBack permit flat) ⊎ (flat_holding after permit ≡ flat)
   step pool after (Take other) a e held =
       let t = took pool after other a e in
-      inr (others_stay pool after t.holder a.number permit t.from from (λ z. omega (arith, ap (flat_holding pool) z, t.was_free)) t.now ∙ held)
+      inr (others_stay pool after t.holder a permit t.from from (λ z. omega (arith, ap (flat_holding pool) z, t.was_free)) t.now ∙ held)
   step pool after (GiveBack given other) a e held =
       let g = gave pool after other given a e in
       ⊎_elim (λ same. inl (let o : other ≡ flat = sym g.was_his ∙ ap (flat_holding pool) (sym same) ∙ held in let p = sym same in let r : GiveBack given other ≡ GiveBack permit flat = cc in r))

@@ -3,7 +3,6 @@ ghost use Rattle.std.specs.Prelude.{◌≡◌};
 ghost use Rattle.kinds.specs.Pools.{new_pool, pool_applies, granted, given_back, taking, giving_back};
 
 use crate::pool::{Holder, Permit, Pool, PoolCommand};
-use protocol::answer::Answer;
 use protocol::kind::{Applied, Denial, Kind};
 
 impl Pool {
@@ -38,7 +37,7 @@ impl Pool {
         match self.first_free() {
             Some(permit) => {
                 let number = permit.number as u32;
-                Applied::Carried(self.grant(permit, flat), Answer { number })
+                Applied::Carried(self.grant(permit, flat), number)
             }
             None => Applied::Denied(Denial::NoPermitFree),
         }

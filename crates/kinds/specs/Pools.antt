@@ -2,8 +2,6 @@
 use Rattle.std.specs.Prelude.{◌≡◌, ℕ, zero, suc, ◌+◌, ◌-◌, ◌%◌, ◌<◌, ◌≤◌, Bool, cond, List, get_or, replicate, Some, None, count_by, Option, ◌==◌, ◌≢◌, nat_lt, slice_index_or, slice_set, refl}
 use Rattle.std.proofs.Common.{length-set, ◌∙◌, arith}
 use Rattle.std.proofs.Math.Decide.{dec_le}
-use Rattle.std.proofs.lemmas.List.Sums.{count_by-le-length}
-use Rattle.protocol.specs.declared.answer.Answer.{Answer}
 use Rattle.protocol.specs.declared.kind.Applied.{Applied}
 use Rattle.protocol.specs.declared.kind.Applied.TheVariants.{Carried, Denied}
 use Rattle.protocol.specs.declared.kind.Denial.TheVariants.{CommandOutOfRange, NoPermitFree, NotTheHolder}
@@ -87,11 +85,11 @@ given_back pool p = record {
 abbrev pub held_in : List Holder → ℕ
 held_in holders = count_by (λ h. nat_lt 0 h.flat) holders
 
-abbrev pub count_of : Pool → Answer
-count_of pool = record { number = held_in pool.holders; within = omega (arith, count_by-le-length (λ h. nat_lt 0 h.flat) pool.holders, pool.whole) }
+abbrev pub count_of : Pool → ℕ
+count_of pool = held_in pool.holders
 
 abbrev pub granting : Pool → Holder → Option Permit → Applied Pool
-granting pool flat (Some p) = Carried (granted pool p flat) (record { number = p.number; within = omega (arith, p.within) })
+granting pool flat (Some p) = Carried (granted pool p flat) p.number
 granting pool flat None = Denied NoPermitFree
 
 -- a take grants the first free permit after the last granted, and answers it

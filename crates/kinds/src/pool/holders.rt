@@ -3,7 +3,6 @@ ghost use Rattle.std.specs.Prelude.{◌≡◌};
 ghost use Rattle.kinds.specs.Pools.{permit_numbered, permit_after, flat_numbered, nobody, holder_of, free?, count_of};
 
 use crate::pool::{Holder, Permit, Pool};
-use protocol::answer::Answer;
 
 // How many permits there are, and the greatest number of a flat.
 pub const PERMITS: u8 = 32;
@@ -67,7 +66,7 @@ impl Pool {
     }
 
     // How many permits are held.
-    pub fn held(&self) -> Answer
+    pub fn held(&self) -> u32
         ensures { result ≡ count_of self.now }
     {
         let mut held = 0;
@@ -76,6 +75,6 @@ impl Pool {
                 held += 1;
             }
         }
-        Answer { number: held }
+        held
     }
 }
