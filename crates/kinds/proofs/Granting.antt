@@ -1,8 +1,7 @@
 -- The law of grants: a held permit changes hands only by a give-back of its holder.
-use Rattle.std.proofs.Common.{◌≡◌, ℕ, ◌-◌, ◌<◌, ◌≤◌, Bool, true, false, cond, eqb, ◌⊎◌, List, [], ◌∷◌, ◌++◌, length, get_or, set, Some, None, Option, sym, refl, ap, ◌∙◌, subst, inl, inr, ⊎_elim, arith}
+use Rattle.std.proofs.Common.{◌≡◌, ℕ, ◌-◌, ◌≤◌, Bool, true, false, cond, eqb, ◌⊎◌, List, [], ◌∷◌, ◌++◌, get_or, set, Some, None, Option, sym, refl, ap, ◌∙◌, subst, inl, inr, ⊎_elim, arith}
 use Rattle.std.proofs.lemmas.List.{get_or-set_same, get_or-set_other}
 use Rattle.std.proofs.lemmas.Bool.{eqb-true, cases_eq}
-use Rattle.protocol.specs.declared.kind.Applied.{Applied}
 use Rattle.protocol.specs.declared.kind.Applied.TheVariants.{Carried, Denied}
 use Rattle.protocol.specs.declared.kind.Denial.TheVariants.{NotTheHolder}
 use Rattle.protocol.specs.Histories.{Done, History, nothing, one_more, Among, first, further}
@@ -13,7 +12,7 @@ use Rattle.kinds.specs.declared.pool.Permit.{Permit}
 use Rattle.kinds.specs.declared.pool.Pool.{Pool}
 use Rattle.kinds.specs.declared.pool.PoolCommand.{PoolCommand}
 use Rattle.kinds.specs.declared.pool.PoolCommand.TheVariants.{Take, GiveBack}
-use Rattle.kinds.specs.Pools.{nobody, permit_in, permit_numbered, flat_in, flat_numbered, granting, granted, given_back, giving_back, take_by, give_back_by, first_free, pool_applies, count_of, holder_of, flat_holding, NearestFree}
+use Rattle.kinds.specs.Pools.{nobody, permit_in, permit_numbered, flat_in, flat_numbered, granting, granted, given_back, take_by, give_back_by, first_free, pool_applies, count_of, holder_of, flat_holding, NearestFree}
 use Rattle.kinds.specs.Grants.{Grants, GivesBack, GivenBackBetween}
 use Rattle.kinds.proofs.Searches.{nearest}
 

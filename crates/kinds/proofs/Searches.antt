@@ -1,19 +1,10 @@
--- Counting the held permits, and the search for a free one.
-use Rattle.std.proofs.Common.{◌≡◌, ℕ, zero, suc, ◌+◌, ◌-◌, ◌%◌, ◌<◌, ◌≤◌, Bool, true, false, cond, ltb, ◌⊎◌, List, length, get_or, take, Some, None, Option, sym, refl, ap, ◌∙◌, subst, inl, inr, ⊎_elim, arith}
+-- The search for a free permit.
+use Rattle.std.proofs.Common.{◌≡◌, ℕ, zero, suc, ◌+◌, ◌-◌, ◌%◌, ◌<◌, ◌≤◌, Bool, true, false, cond, Some, None, Option, sym, refl, ap, ◌∙◌, ⊎_elim, arith}
 use native.Mathlib.Decide.{dec_le}
-use Rattle.std.proofs.lemmas.List.Sums.{count_by_more_yes, count_by_more_no}
-use Rattle.std.proofs.lemmas.Bool.{eqb-true, eqb-false, lt-ltb, le-ltb, cases_lt}
-use Rattle.kinds.specs.declared.pool.Holder.{Holder}
+use Rattle.std.proofs.lemmas.Bool.{eqb-true, eqb-false, cases_lt}
 use Rattle.kinds.specs.declared.pool.Permit.{Permit}
 use Rattle.kinds.specs.declared.pool.Pool.{Pool}
-use Rattle.kinds.specs.Pools.{nobody, next_in, permit_after, free?, first_free, search_after, held_in, permit_at, flat_holding, NearestAt, NearestFree}
-
-module _ (hs : List Holder) (i n : ℕ) (d : Holder) (l : i < length hs) (so_far : n ≡ held_in (take i hs)) where
-  pub one_held : (m : ℕ) → m ≡ n + 1 → ((get_or hs i d).flat ≡ 0 → ⊥) → m ≡ held_in (take (i + 1) hs)
-  one_held m p taken = omega (arith, count_by_more_yes (λ x. ltb 0 x.flat) hs i d l (lt-ltb 0 (get_or hs i d).flat (omega arith)))
-
-  pub one_free : (m : ℕ) → m ≡ n → (get_or hs i d).flat ≡ 0 → m ≡ held_in (take (i + 1) hs)
-  one_free m p free = omega (arith, count_by_more_no (λ x. ltb 0 x.flat) hs i d l (le-ltb 0 (get_or hs i d).flat (omega arith)))
+use Rattle.kinds.specs.Pools.{next_in, permit_after, free?, first_free, search_after, permit_at, flat_holding, NearestAt, NearestFree}
 
 module _ (pool : Pool) (after : ℕ) where
   pub search_none : (left : ℕ) → left ≡ 0 → None ≡ search_after pool after left

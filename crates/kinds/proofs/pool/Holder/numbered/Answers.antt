@@ -1,4 +1,4 @@
-use Rattle.std.proofs.Common.{refl, arith}
+use Rattle.std.proofs.Common.{arith}
 use Rattle.kinds.proofs.Permits.{is_flat, no_flat}
 use Rattle.kinds.proofs.pool.Holder.numbered.Goals as goal
 

@@ -1,4 +1,4 @@
-use Rattle.std.proofs.Common.{refl, arith}
+use Rattle.std.proofs.Common.{arith}
 use Rattle.kinds.proofs.Permits.{is_permit, no_permit}
 use Rattle.kinds.proofs.pool.Permit.numbered.Goals as goal
 

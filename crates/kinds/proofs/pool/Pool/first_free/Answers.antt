@@ -1,5 +1,5 @@
-use Rattle.std.proofs.Common.{◌≡◌, sym, subst, arith}
-use Rattle.kinds.specs.Pools.{first_free, NearestFree}
+use Rattle.std.proofs.Common.{sym, subst, arith}
+use Rattle.kinds.specs.Pools.{NearestFree}
 use Rattle.kinds.proofs.Searches.{as_ruled, nearest}
 use Rattle.kinds.proofs.pool.Pool.first_free.Goals as goal
 

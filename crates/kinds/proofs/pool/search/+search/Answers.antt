@@ -1,4 +1,4 @@
-use Rattle.std.proofs.Common.{arith, rules}
+use Rattle.std.proofs.Common.{arith}
 use Rattle.kinds.proofs.Searches.{search_none, search_found, search_passed}
 use Rattle.kinds.proofs.pool.search.+search.Goals as goal
 
