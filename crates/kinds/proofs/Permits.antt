@@ -4,6 +4,7 @@ use mathlib.Core.HLevel.{is_prop→PathP}
 use native.Mathlib.Bridge.{le_prop}
 use native.Mathlib.Decide.{dec_le}
 use native.Mathlib.Nat.{ℕ_set}
+use Rattle.protocol.specs.declared.kind.Applied.TheVariants.{Carried}
 use Rattle.protocol.specs.Ranges.{Within, within?}
 use Rattle.kinds.specs.declared.pool.Holder.{Holder}
 use Rattle.kinds.specs.declared.pool.Permit.{Permit}
@@ -27,6 +28,10 @@ same_pool a b p q = λ i. record {
   whole = is_prop→PathP (λ j. length (p j) ≡ 32) (λ j. ℕ_set (length (p j)) 32) a.whole b.whole i;
   last_within = is_prop→PathP (λ j. q j ≤ 32) (λ j. le_prop) a.last_within b.last_within i;
 }
+
+-- what is carried is the same where the pool and the answer are
+pub same_carried : (a b : Pool) (m n : ℕ) → a ≡ b → m ≡ n → Carried a m ≡ Carried b n
+same_carried a b m n e p = cc
 
 permit_some : (p : Permit) (n : ℕ) → p.number ≡ n → (d : Dec (Within 1 32 n)) → Some p ≡ permit_in n d
 permit_some p n e (yes h) = ap Some (same_permit p _ e)

@@ -1,13 +1,13 @@
-use Rattle.std.proofs.Common.{◌≡◌, true, eqb, ap, ◌∙◌, arith}
+use Rattle.std.proofs.Common.{◌≡◌, true, eqb, ap, arith}
 use Rattle.std.proofs.lemmas.Bool.{eq-eqb}
-use Rattle.protocol.specs.declared.kind.Applied.TheVariants.{Carried}
 use Rattle.kinds.specs.declared.pool.Holder.{Holder}
-use Rattle.kinds.specs.Pools.{holder_of, given_back, count_of}
+use Rattle.kinds.specs.Pools.{holder_of, count_of}
+use Rattle.kinds.proofs.Permits.{same_carried}
 use Rattle.kinds.proofs.pool.Pool.give_back.Goals as goal
 
 pub returns : goal.returns
 returns c =
     let holder = ap (λ (h : Holder). h.flat) c.holder_of.ensures in
     let same : eqb (holder_of c.args.self.now c.args.permit).flat c.args.flat.flat ≡ true = eq-eqb _ _ (omega arith) in
-    let count = c.held.ensures ∙ ap count_of c.release-after.ensures in
-    rw same (ap (λ p. Carried p c.held.result) c.release-after.ensures ∙ ap (Carried (given_back c.args.self.now c.args.permit)) count)
+    let after = ap count_of c.release-after.ensures in
+    rw same (same_carried _ _ _ _ c.release-after.ensures (omega arith))
