@@ -2,4 +2,7 @@
 #![tactic(auto)]
 
 pub mod meter;
+pub mod piece;
+pub mod pool;
+pub mod row;
 pub mod text;
