@@ -4,7 +4,6 @@ use Rattle.std.proofs.Common.{arith}
 use Rattle.protocol.specs.declared.message.Access.TheVariants.{Write}
 use Rattle.protocol.specs.declared.message.Body.{Body}
 use Rattle.protocol.specs.declared.message.Body.TheVariants.{Prepare, PrepareAt, Vote}
-use Rattle.protocol.specs.declared.message.Head.{Head}
 use Rattle.protocol.specs.declared.message.Message.{Message}
 use Rattle.protocol.specs.declared.message.Number.{Number}
 use Rattle.kinds.specs.declared.meter.Meter.{Meter}

@@ -7,7 +7,7 @@ pub fn carried<K: Kind>(value: &mut K, command: &K::Command) -> Result<u32, Fail
     match value.apply(command) {
         Applied::Carried(next, answer) => {
             *value = next;
-            Ok(answer.number)
+            Ok(answer)
         }
         Applied::Already(_) => Err(Fail::new("carried already")),
         Applied::Denied(_) => Err(Fail::new("denied")),
@@ -17,7 +17,7 @@ pub fn carried<K: Kind>(value: &mut K, command: &K::Command) -> Result<u32, Fail
 // The command was carried already, with this answer.
 pub fn already<K: Kind>(value: &K, command: &K::Command) -> Result<u32, Fail> {
     match value.apply(command) {
-        Applied::Already(answer) => Ok(answer.number),
+        Applied::Already(answer) => Ok(answer),
         Applied::Carried(_, _) => Err(Fail::new("carried")),
         Applied::Denied(_) => Err(Fail::new("denied")),
     }

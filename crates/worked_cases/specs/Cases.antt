@@ -13,7 +13,6 @@ use Rattle.kinds.specs.declared.pool.Pool.{Pool}
 use Rattle.kinds.specs.declared.pool.PoolCommand.{PoolCommand}
 use Rattle.kinds.specs.Meters.{zero_meter}
 use Rattle.kinds.specs.Pools.{new_pool, pool_applies}
-use Rattle.once.specs.declared.layer.Once.{Once}
 use Rattle.once.specs.declared.layer.Request.{Request}
 use Rattle.once.specs.Layers.{new_layer, once_applies}
 use Rattle.keeper.specs.declared.step.Step.{Step}
@@ -47,8 +46,8 @@ pub data Case : Type 0 where
   of_keeper : List (Message Meter) → Message Meter → List Item → Outcome → Case
 
 abbrev outcome_of : {V : Type 0} → Applied V → Outcome
-outcome_of (Carried v a) = carried a.number
-outcome_of (Already a) = already a.number
+outcome_of (Carried v a) = carried a
+outcome_of (Already a) = already a
 outcome_of (Denied d) = denied (denial_number d)
 
 abbrev value_after : {V : Type 0} → V → Applied V → V

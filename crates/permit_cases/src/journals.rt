@@ -11,6 +11,8 @@ use protocol::message::{Access, Body, Head, Message};
 use protocol::record::Record;
 use protocol::refusal::StoreRefusal;
 use protocol::store::{Entry, Store};
+use std::alloc::Global;
+use std::process::Abort;
 use std::test::*;
 use stores::making::NoStore;
 
@@ -25,8 +27,9 @@ fn fill<S: Store<Value = Meter>>(
     registers: u8,
     from: u32,
     count: u32,
+    rt: &impl Abort,
 ) -> Result<(), Fail> {
-    assert!(registers > 0 && from < 1000 && count < 1000);
+    assert!(rt; registers > 0 && from < 1000 && count < 1000);
     for n in from..from + count {
         let record = nth(n)?;
         store.put((n % registers as u32) as u8, &record)?;
@@ -38,13 +41,14 @@ fn fill<S: Store<Value = Meter>>(
 fn clean<S: Store<Value = Meter>>(
     store: &mut S,
     entries: usize,
+    rt: &impl Abort,
 ) -> Result<Option<StoreRefusal>, Fail> {
     let blank = Entry {
         register: 0,
         record: nth(0)?,
     };
     let mut scratch = [blank; 64];
-    assert!(entries <= 64);
+    assert!(rt; entries <= 64);
     Ok(store.clean(&mut scratch[0..entries]).err())
 }
 
@@ -54,39 +58,39 @@ fn put<S: Store<Value = Meter>>(store: &mut S, register: u8) -> Result<Option<St
 }
 
 // Three places for each register: they fill, and all but one for each come free again.
-fn fills_and_goes_on(rt: HostRuntime, registers: u8) -> Result<(), Fail> {
-    assert!(0 < registers && registers <= 64);
+fn fills_and_goes_on(rt: &impl Abort, alloc: Global, registers: u8) -> Result<(), Fail> {
+    assert!(rt; 0 < registers && registers <= 64);
     let count = registers as u32;
-    let mut store = JournalStore::<Meter>::new(rt.alloc(), registers, 3 * registers as usize)?;
-    fill(&mut store, registers, 0, 3 * count)?;
-    assert_eq!(put(&mut store, 0)?, Some(StoreRefusal::Shut));
-    assert_eq!(
+    let mut store = JournalStore::<Meter>::new(alloc, registers, 3 * registers as usize)?;
+    fill(&mut store, registers, 0, 3 * count, rt)?;
+    assert_eq!(rt; put(&mut store, 0)?, Some(StoreRefusal::Shut));
+    assert_eq!(rt;
         put(&mut store, registers)?,
         Some(StoreRefusal::UnknownRegister)
     );
-    let short = clean(&mut store, registers as usize - 1)?;
-    assert_eq!(short, Some(StoreRefusal::ShortScratch));
-    assert_eq!(clean(&mut store, registers as usize)?, None);
-    assert_eq!(store.get(registers - 1)?.value.total, 3 * count - 1);
-    fill(&mut store, registers, 3 * count, 2 * count)?;
-    assert_eq!(put(&mut store, 0)?, Some(StoreRefusal::Shut));
-    assert_eq!(store.get(0)?.value.total, 4 * count);
+    let short = clean(&mut store, registers as usize - 1, rt)?;
+    assert_eq!(rt; short, Some(StoreRefusal::ShortScratch));
+    assert_eq!(rt; clean(&mut store, registers as usize, rt)?, None);
+    assert_eq!(rt; store.get(registers - 1)?.value.total, 3 * count - 1);
+    fill(&mut store, registers, 3 * count, 2 * count, rt)?;
+    assert_eq!(rt; put(&mut store, 0)?, Some(StoreRefusal::Shut));
+    assert_eq!(rt; store.get(0)?.value.total, 4 * count);
     Ok(())
 }
 
 #[test]
 fn a_journal_for_one_register_goes_on(rt: HostRuntime) -> Result<(), Fail> {
-    fills_and_goes_on(rt, 1)
+    fills_and_goes_on(&rt, rt.alloc(), 1)
 }
 
 #[test]
 fn a_journal_for_four_registers_goes_on(rt: HostRuntime) -> Result<(), Fail> {
-    fills_and_goes_on(rt, 4)
+    fills_and_goes_on(&rt, rt.alloc(), 4)
 }
 
 #[test]
 fn a_journal_for_all_registers_goes_on(rt: HostRuntime) -> Result<(), Fail> {
-    fills_and_goes_on(rt, 64)
+    fills_and_goes_on(&rt, rt.alloc(), 64)
 }
 
 fn refused(rt: &HostRuntime, registers: u8, places: usize) -> Option<NoStore> {
