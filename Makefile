@@ -1,5 +1,6 @@
 # make run: proves and builds the keeper program, and shows it answering a few lines.
-# make test: the gate. Everything is proved from nothing, must-fail edits and tests included.
+# make test: the gate. Everything is proved, must-fail edits and tests included; what a run on this machine passed
+# before, from nothing and on the same files, is not proved again.
 # make bench: the program's rate beside that of a plain Rust program of the same rules.
 
 .PHONY: run test bench
