@@ -1,12 +1,13 @@
 -- Histories taken apart.
-use Rattle.std.proofs.Common.{◌≡◌, List, [], ◌∷◌, ◌++◌}
+use Rattle.std.proofs.Common.{◌≡◌, List, [], ◌∷◌, ◌++◌, Ok, Result}
 use Rattle.protocol.specs.declared.kind.Applied.{Applied}
 use Rattle.protocol.specs.declared.kind.Applied.TheVariants.{Carried}
+use Rattle.protocol.specs.declared.kind.Denial.{Denial}
 use Rattle.protocol.specs.Histories.{Done, History, nothing, one_more}
 
-module _ {V C : Type 0} (applies : V → C → Applied V) (from : V) where
+module _ {V C : Type 0} (applies : V → C → Result (Applied V) Denial) (from : V) where
   -- the newest command, and what led up to it
-  pub newest : (d : Done C) (earlier : List (Done C)) (to : V) → History applies from (d ∷ earlier) to → (v : V) × (History applies from earlier v × (applies v d.command ≡ Carried to d.answer))
+  pub newest : (d : Done C) (earlier : List (Done C)) (to : V) → History applies from (d ∷ earlier) to → (v : V) × (History applies from earlier v × (applies v d.command ≡ Ok (Carried to d.answer)))
   newest d earlier to (one_more {v = v} _ h e) = (v, (h, e))
 
   -- the newer part of a history starts where the older part ends

@@ -5,17 +5,20 @@ ghost use Rattle.protocol.specs.Groups.{keepers_in, majority_of, group_of};
 use crate::refusal::OutOfRange;
 
 // The keepers of a group are an odd number, so that half of them, rounded up, is a majority.
-#[derive(Clone, Copy)]
+#[derive(Clone, Copy, PartialEq, Eq, Debug)]
 pub enum GroupSize {
-    Three,
-    Five,
-    Seven,
+    Three = 3,
+    Five = 5,
+    Seven = 7,
 }
 
-impl GroupSize {
-    pub fn new(keepers: u8) -> Result<GroupSize, OutOfRange>
-        ensures { result ≡ group_of keepers }
-    {
+// The group of so many keepers.
+impl TryFrom<u8> for GroupSize {
+    type Error = OutOfRange;
+
+    ghost try_from_gives = { λ keepers r. r ≡ group_of keepers };
+
+    fn try_from(keepers: u8) -> Result<GroupSize, OutOfRange> {
         match keepers {
             3 => Ok(GroupSize::Three),
             5 => Ok(GroupSize::Five),
@@ -23,15 +26,13 @@ impl GroupSize {
             _ => Err(OutOfRange {}),
         }
     }
+}
 
+impl GroupSize {
     pub fn keepers(self) -> u8
         ensures { result ≡ keepers_in self }
     {
-        match self {
-            GroupSize::Three => 3,
-            GroupSize::Five => 5,
-            GroupSize::Seven => 7,
-        }
+        self as u8
     }
 
     pub fn majority(self) -> u8

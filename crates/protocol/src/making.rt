@@ -47,7 +47,7 @@ impl Head {
     pub fn new(register: u8, hub: u8, attempt: u64) -> Result<Head, OutOfRange>
         ensures { MakesHead register hub attempt result }
     {
-        if register > 63 || hub < 1 || hub > 15 || attempt < 1 || attempt > TOP {
+        if register > 63 || !(1..=15).contains(&hub) || !(1..=TOP).contains(&attempt) {
             return Err(OutOfRange {});
         }
         Ok(Head {
@@ -58,16 +58,20 @@ impl Head {
     }
 }
 
-impl Number {
-    pub fn new(n: u64) -> Result<Number, OutOfRange>
-        ensures { MakesNumber n result }
-    {
-        if n < 1 || n > TOP {
+impl TryFrom<u64> for Number {
+    type Error = OutOfRange;
+
+    ghost try_from_gives = { MakesNumber };
+
+    fn try_from(n: u64) -> Result<Number, OutOfRange> {
+        if !(1..=TOP).contains(&n) {
             return Err(OutOfRange {});
         }
         Ok(Number { n })
     }
+}
 
+impl Number {
     // The number after the one of `round`; none after the top.
     pub fn after(round: &Round) -> Option<Number>
         ensures { result ≡ number_after round.now }

@@ -6,38 +6,25 @@ ghost use Rattle.protocol.specs.Refusals.{number_of, store_reason};
 // Every reason for a refusal in this library. A number means the same thing wherever it is read.
 #[derive(Clone, Copy, PartialEq, Eq, Debug)]
 pub enum Reason {
-    UnknownRegister,
-    WrongMessage,
-    Stale,
-    CounterAtTop,
-    StoreShut,
-    LineFrame,
-    UnknownLetter,
-    FieldCount,
-    FieldForm,
-    FieldRange,
-    NoRoom,
-    OutOfRange,
+    UnknownRegister = 1,
+    WrongMessage = 2,
+    Stale = 3,
+    CounterAtTop = 4,
+    StoreShut = 5,
+    LineFrame = 10,
+    UnknownLetter = 11,
+    FieldCount = 12,
+    FieldForm = 13,
+    FieldRange = 14,
+    NoRoom = 15,
+    OutOfRange = 16,
 }
 
-impl Reason {
-    pub fn number(self) -> u8
-        ensures { result ≡ number_of self }
-    {
-        match self {
-            Reason::UnknownRegister => 1,
-            Reason::WrongMessage => 2,
-            Reason::Stale => 3,
-            Reason::CounterAtTop => 4,
-            Reason::StoreShut => 5,
-            Reason::LineFrame => 10,
-            Reason::UnknownLetter => 11,
-            Reason::FieldCount => 12,
-            Reason::FieldForm => 13,
-            Reason::FieldRange => 14,
-            Reason::NoRoom => 15,
-            Reason::OutOfRange => 16,
-        }
+impl From<Reason> for u8 {
+    ghost from_gives = { λ reason n. n ≡ number_of reason };
+
+    fn from(reason: Reason) -> u8 {
+        reason as u8
     }
 }
 
@@ -50,11 +37,11 @@ pub enum StoreRefusal {
     ShortScratch,
 }
 
-impl StoreRefusal {
-    pub fn reason(self) -> Reason
-        ensures { result ≡ store_reason self }
-    {
-        match self {
+impl From<StoreRefusal> for Reason {
+    ghost from_gives = { λ refusal reason. reason ≡ store_reason refusal };
+
+    fn from(refusal: StoreRefusal) -> Reason {
+        match refusal {
             StoreRefusal::UnknownRegister => Reason::UnknownRegister,
             StoreRefusal::Shut => Reason::StoreShut,
             StoreRefusal::ShortScratch => Reason::NoRoom,
@@ -66,10 +53,12 @@ impl StoreRefusal {
 #[derive(Clone, Copy, PartialEq, Eq, Debug)]
 pub struct OutOfRange {}
 
-impl OutOfRange {
-    pub fn reason(self) -> Reason
-        ensures { result ≡ Reason.OutOfRange }
-    {
+impl From<OutOfRange> for Reason {
+    ghost use Rattle.protocol.specs.declared.refusal.Reason.TheVariants.{OutOfRange};
+
+    ghost from_gives = { λ e reason. reason ≡ OutOfRange };
+
+    fn from(_e: OutOfRange) -> Reason {
         Reason::OutOfRange
     }
 }
