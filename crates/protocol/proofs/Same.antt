@@ -1,5 +1,6 @@
 -- Two values of a type with ranges are the same where their numbers are: a range has one proof.
 use Rattle.std.proofs.Common.{◌≡◌, ℕ, ◌+◌, ◌^◌, ◌≤◌, true, Some, None, refl, ap, arith}
+use mathlib.Core.Path.{PathP}
 use mathlib.Core.HLevel.{is_prop→PathP, Π_prop}
 use native.Mathlib.Bridge.{le_prop}
 use native.Mathlib.Decide.{dec_le}
@@ -10,31 +11,38 @@ use Rattle.protocol.specs.declared.message.Promise.{Promise}
 use Rattle.protocol.specs.declared.round.Round.{Round}
 use Rattle.protocol.specs.Rounds.{number_after, next_within}
 
+-- a bound has one proof, also where the number changes along a path
+pub from_path : {m n : ℕ} (p : m ≡ n) (low : ℕ) (h : low ≤ m) (k : low ≤ n) → PathP (λ i. low ≤ p i) h k
+from_path p low = is_prop→PathP (λ j. low ≤ p j) (λ j. le_prop)
+
+pub within_path : {m n : ℕ} (p : m ≡ n) (top : ℕ) (h : m ≤ top) (k : n ≤ top) → PathP (λ i. p i ≤ top) h k
+within_path p top = is_prop→PathP (λ j. p j ≤ top) (λ j. le_prop)
+
 pub same_round : (r s : Round) → r.n ≡ s.n → r.hub ≡ s.hub → r.attempt ≡ s.attempt → r ≡ s
 same_round r s p q t = λ i. record {
   n = p i;
   hub = q i;
   attempt = t i;
-  n_within = is_prop→PathP (λ j. p j ≤ 2 ^ 40) (λ j. le_prop) r.n_within s.n_within i;
-  hub_within = is_prop→PathP (λ j. q j ≤ 15) (λ j. le_prop) r.hub_within s.hub_within i;
-  attempt_within = is_prop→PathP (λ j. t j ≤ 2 ^ 40) (λ j. le_prop) r.attempt_within s.attempt_within i;
+  n_within = within_path p (2 ^ 40) r.n_within s.n_within i;
+  hub_within = within_path q 15 r.hub_within s.hub_within i;
+  attempt_within = within_path t (2 ^ 40) r.attempt_within s.attempt_within i;
 }
 
 pub same_number : (m k : Number) → m.n ≡ k.n → m ≡ k
 same_number m k p = λ i. record {
   n = p i;
-  from = is_prop→PathP (λ j. 1 ≤ p j) (λ j. le_prop) m.from k.from i;
-  within = is_prop→PathP (λ j. p j ≤ 2 ^ 40) (λ j. le_prop) m.within k.within i;
+  from = from_path p 1 m.from k.from i;
+  within = within_path p (2 ^ 40) m.within k.within i;
 }
 
 pub same_keeper : (a b : KeeperId) → a.id ≡ b.id → a ≡ b
-same_keeper a b p = λ i. record { id = p i; within = is_prop→PathP (λ j. p j ≤ 6) (λ j. le_prop) a.within b.within i }
+same_keeper a b p = λ i. record { id = p i; within = within_path p 6 a.within b.within i }
 
 pub same_promise : (a b : Promise) → a.raised ≡ b.raised → a.n ≡ b.n → a ≡ b
 same_promise a b p q = λ i. record {
   raised = p i;
   n = q i;
-  within = is_prop→PathP (λ j. q j ≤ 2 ^ 40) (λ j. le_prop) a.within b.within i;
+  within = within_path q (2 ^ 40) a.within b.within i;
   from_one_where_raised = is_prop→PathP (λ j. p j ≡ true → 1 ≤ q j) (λ j. Π_prop (λ e. le_prop)) a.from_one_where_raised b.from_one_where_raised i;
 }
 
@@ -43,11 +51,11 @@ same_head a b p q t = λ i. record {
   register = p i;
   hub = q i;
   attempt = t i;
-  register_within = is_prop→PathP (λ j. p j ≤ 63) (λ j. le_prop) a.register_within b.register_within i;
-  hub_from = is_prop→PathP (λ j. 1 ≤ q j) (λ j. le_prop) a.hub_from b.hub_from i;
-  hub_within = is_prop→PathP (λ j. q j ≤ 15) (λ j. le_prop) a.hub_within b.hub_within i;
-  attempt_from = is_prop→PathP (λ j. 1 ≤ t j) (λ j. le_prop) a.attempt_from b.attempt_from i;
-  attempt_within = is_prop→PathP (λ j. t j ≤ 2 ^ 40) (λ j. le_prop) a.attempt_within b.attempt_within i;
+  register_within = within_path p 63 a.register_within b.register_within i;
+  hub_from = from_path q 1 a.hub_from b.hub_from i;
+  hub_within = within_path q 15 a.hub_within b.hub_within i;
+  attempt_from = from_path t 1 a.attempt_from b.attempt_from i;
+  attempt_within = within_path t (2 ^ 40) a.attempt_within b.attempt_within i;
 }
 
 next_some : (m : Number) (n : ℕ) → m.n ≡ n + 1 → (d : Dec (n + 1 ≤ 2 ^ 40)) → Some m ≡ next_within n d
