@@ -1,118 +1,124 @@
 -- The law of grants: a held permit changes hands only by a give-back of its holder.
-use Rattle.std.proofs.Common.{◌≡◌, ℕ, ◌-◌, ◌≤◌, Bool, true, false, cond, eqb, ◌⊎◌, List, [], ◌∷◌, ◌++◌, get_or, set, Some, None, Option, sym, refl, ap, ◌∙◌, subst, inl, inr, ⊎_elim, arith}
+use Rattle.std.proofs.Common.{◌≡◌, ◌≢◌, ℕ, ◌-◌, ◌≤◌, Bool, true, false, cond, ◌⊎◌, List, [], ◌∷◌, ◌++◌, get_or, set, Some, None, Option, Ok, Err, Result, sym, refl, ap, ◌∙◌, subst, inl, inr, ⊎_elim, arith}
+use Rattle.std.specs.Option.{option_eq}
 use Rattle.std.proofs.lemmas.List.{get_or-set_same, get_or-set_other}
 use Rattle.std.proofs.lemmas.Bool.{eqb-true, cases_eq}
-use Rattle.protocol.specs.declared.kind.Applied.TheVariants.{Carried, Denied}
+use Rattle.protocol.specs.declared.kind.Applied.{Applied}
+use Rattle.protocol.specs.declared.kind.Applied.TheVariants.{Carried}
+use Rattle.protocol.specs.declared.kind.Denial.{Denial}
 use Rattle.protocol.specs.declared.kind.Denial.TheVariants.{NotTheHolder}
+use Rattle.protocol.specs.declared.refusal.OutOfRange.{OutOfRange}
 use Rattle.protocol.specs.Histories.{Done, History, nothing, one_more, Among, first, further}
-use Rattle.protocol.specs.Ranges.{Within, within?}
+use Rattle.protocol.specs.Ranges.{within?}
 use Rattle.protocol.proofs.Histories.{newest, parts}
-use Rattle.kinds.specs.declared.pool.Holder.{Holder}
+use Rattle.kinds.specs.declared.pool.Flat.{Flat}
 use Rattle.kinds.specs.declared.pool.Permit.{Permit}
 use Rattle.kinds.specs.declared.pool.Pool.{Pool}
 use Rattle.kinds.specs.declared.pool.PoolCommand.{PoolCommand}
 use Rattle.kinds.specs.declared.pool.PoolCommand.TheVariants.{Take, GiveBack}
-use Rattle.kinds.specs.Pools.{nobody, permit_in, permit_numbered, flat_in, flat_numbered, granting, granted, given_back, take_by, give_back_by, first_free, pool_applies, count_of, holder_of, flat_holding, NearestFree}
+use Rattle.kinds.specs.Pools.{made, permit_numbered, flat_numbered, if_there, granting, granted, given_back, taking, giving_back, one_flat?, first_free, pool_applies, count_of, holder_of, holding, NearestFree}
 use Rattle.kinds.specs.Grants.{Grants, GivesBack, GivenBackBetween}
+use Rattle.kinds.proofs.Permits.{same_flat}
 use Rattle.kinds.proofs.Searches.{nearest}
 
--- what a take that is carried did
-record Took (pool after : Pool) (flat permit : ℕ) : Type 0 where
-  real : 1 ≤ flat
+-- a command changed who holds one permit
+record Changed (pool after : Pool) (permit : ℕ) (was is : Option Flat) : Type 0 where
   from : 1 ≤ permit
   to : permit ≤ 32
-  was_free : flat_holding pool permit ≡ 0
-  holder : Holder
-  is : holder.flat ≡ flat
-  now : after.holders ≡ set pool.holders (permit - 1) holder
+  before : holding pool permit ≡ was
+  now : after.holders ≡ set pool.holders (permit - 1) is
 
-flat_is : (n : ℕ) (f : Holder) → flat_numbered n ≡ Some f → (f.flat ≡ n) × (1 ≤ n)
+abbrev Took : Pool → Pool → ℕ → ℕ → Type 0
+Took pool after flat permit = (f : Flat) × ((flat ≡ f.number) × Changed pool after permit None (Some f))
+
+abbrev Gave : Pool → Pool → ℕ → ℕ → Type 0
+Gave pool after flat permit = (f : Flat) × ((flat ≡ f.number) × Changed pool after permit (Some f) None)
+
+made_of : {X R : Type 0} (make : R → X) (x : X) (d : Dec R) → made make d ≡ Ok x → (h : R) × (make h ≡ x)
+made_of make x (yes h) e = (h, cc)
+made_of make x (no h) e = absurd (cc)
+
+flat_is : (n : ℕ) (f : Flat) → flat_numbered n ≡ Ok f → n ≡ f.number
 unfolding flat_numbered
-flat_is n f e = by (within? 1 200 n) e
-  where
-    by : (d : Dec (Within 1 200 n)) → flat_in n d ≡ Some f → (f.flat ≡ n) × (1 ≤ n)
-    by (yes h) e = let s : record { flat = n; within = h.1 } ≡ f = cc in (ap (λ (x : Holder). x.flat) (sym s), h.0)
-    by (no h) e = let z : ◌≡◌ {A = ℕ} 0 1 = cc in absurd (omega arith)
+flat_is n f e = ap (λ (x : Flat). x.number) (made_of _ f (within? 1 200 n) e).1
 
-permit_is : (n : ℕ) (p : Permit) → permit_numbered n ≡ Some p → p.number ≡ n
+permit_is : (n : ℕ) (p : Permit) → permit_numbered n ≡ Ok p → n ≡ p.number
 unfolding permit_numbered
-permit_is n p e = by (within? 1 32 n) e
-  where
-    by : (d : Dec (Within 1 32 n)) → permit_in n d ≡ Some p → p.number ≡ n
-    by (yes h) e = let s : record { number = n; from = h.0; within = h.1 } ≡ p = cc in ap (λ (x : Permit). x.number) (sym s)
-    by (no h) e = let z : ◌≡◌ {A = ℕ} 0 1 = cc in absurd (omega arith)
+permit_is n p e = ap (λ (x : Permit). x.number) (made_of _ p (within? 1 32 n) e).1
 
-took_by : (pool after : Pool) (f : Holder) (flat : ℕ) (a : ℕ) → f.flat ≡ flat → 1 ≤ flat → (o : Option Permit) → NearestFree pool o → granting pool f o ≡ Carried after a → Took pool after flat a
-took_by pool after f flat a is real (Some p) near e =
+was_there : {X : Type 0} (r : Result X OutOfRange) (applied : X → Result (Applied Pool) Denial) (v : Applied Pool) → if_there r applied ≡ Ok v → (x : X) × ((r ≡ Ok x) × (applied x ≡ Ok v))
+was_there (Ok x) applied v e = (x, (refl, e))
+was_there (Err o) applied v e = absurd (cc)
+
+took_if : (pool after : Pool) (f : Flat) (a : ℕ) (o : Option Permit) → NearestFree pool o → granting pool f o ≡ Ok (Carried after a) → Changed pool after a None (Some f)
+took_if pool after f a (Some p) near e =
     let s : granted pool p f ≡ after = cc in
     let n : p.number ≡ a = cc in
     record {
-      real = real;
       from = omega (arith, p.from);
       to = omega (arith, p.within);
-      was_free = ap (flat_holding pool) (sym n) ∙ near.1.free;
-      holder = f;
-      is = is;
-      now = ap (λ (x : Pool). x.holders) (sym s) ∙ ap (λ k. set pool.holders (k - 1) f) n;
+      before = ap (holding pool) (sym n) ∙ near.1.free;
+      now = ap (λ (x : Pool). x.holders) (sym s) ∙ ap (λ k. set pool.holders (k - 1) (Some f)) n;
     }
-took_by pool after f flat a is real None near e = let z : ◌≡◌ {A = ℕ} 0 1 = cc in absurd (omega arith)
+took_if pool after f a None near e = absurd (cc)
 
-took : (pool after : Pool) (flat : ℕ) (a : ℕ) → pool_applies pool (Take flat) ≡ Carried after a → Took pool after flat a
-took pool after flat a e = by (flat_numbered flat) refl e
-  where
-    by : (o : Option Holder) → flat_numbered flat ≡ o → take_by pool o ≡ Carried after a → Took pool after flat a
-    by (Some f) s e = let r = flat_is flat f s in took_by pool after f flat a r.0 r.1 (first_free pool) (nearest pool) e
-    by None s e = let z : ◌≡◌ {A = ℕ} 0 1 = cc in absurd (omega arith)
+-- a take that is carried: the permit was free, and is the flat's
+took : (pool after : Pool) (flat a : ℕ) → pool_applies pool (Take flat) ≡ Ok (Carried after a) → Took pool after flat a
+took pool after flat a e =
+    let f = was_there (flat_numbered flat) (λ f. taking pool f) (Carried after a) e in
+    (f.0, (flat_is flat f.0 f.1.0, took_if pool after f.0 a (first_free pool) (nearest pool) f.1.1))
 
--- what a give-back that is carried did
-record Gave (pool after : Pool) (flat permit : ℕ) : Type 0 where
-  from : 1 ≤ permit
-  was_his : flat_holding pool permit ≡ flat
-  now : after.holders ≡ set pool.holders (permit - 1) nobody
+is_his : (h : Option Flat) (f : Flat) → option_eq one_flat? h (Some f) ≡ true → h ≡ Some f
+is_his (Some g) f t = ap Some (same_flat g f (eqb-true _ _ t))
+is_his None f t = absurd (cc)
 
-gave_if : (b : Bool) (pool after : Pool) (p : Permit) (f : Holder) (flat permit : ℕ) (a : ℕ) → p.number ≡ permit → f.flat ≡ flat → eqb (holder_of pool p).flat f.flat ≡ b → cond b (Carried (given_back pool p) (count_of (given_back pool p))) (Denied NotTheHolder) ≡ Carried after a → Gave pool after flat permit
-gave_if true pool after p f flat permit a is his t e =
+gave_if : (pool after : Pool) (p : Permit) (f : Flat) (a : ℕ) (b : Bool) → option_eq one_flat? (holder_of pool p) (Some f) ≡ b → cond b (Ok (Carried (given_back pool p) (count_of (given_back pool p)))) (Err NotTheHolder) ≡ Ok (Carried after a) → Changed pool after p.number (Some f) None
+gave_if pool after p f a true t e =
     let s : given_back pool p ≡ after = cc in
-    record {
-      from = omega (arith, p.from);
-      was_his = ap (flat_holding pool) (sym is) ∙ eqb-true _ _ t ∙ his;
-      now = ap (λ (x : Pool). x.holders) (sym s) ∙ ap (λ k. set pool.holders (k - 1) nobody) is;
-    }
-gave_if false pool after p f flat permit a is his t e = let z : ◌≡◌ {A = ℕ} 0 1 = cc in absurd (omega arith)
+    record { from = p.from; to = p.within; before = is_his _ f t; now = ap (λ (x : Pool). x.holders) (sym s) }
+gave_if pool after p f a false t e = absurd (cc)
 
-gave : (pool after : Pool) (flat permit : ℕ) (a : ℕ) → pool_applies pool (GiveBack permit flat) ≡ Carried after a → Gave pool after flat permit
-gave pool after flat permit a e = by (permit_numbered permit) (flat_numbered flat) refl refl e
-  where
-    by : (o : Option Permit) (q : Option Holder) → permit_numbered permit ≡ o → flat_numbered flat ≡ q → give_back_by pool o q ≡ Carried after a → Gave pool after flat permit
-    by (Some p) (Some f) s t e = gave_if (eqb (holder_of pool p).flat f.flat) pool after p f flat permit a (permit_is permit p s) (flat_is flat f t).0 refl e
-    by (Some p) None s t e = let z : ◌≡◌ {A = ℕ} 0 1 = cc in absurd (omega arith)
-    by None q s t e = let z : ◌≡◌ {A = ℕ} 0 1 = cc in absurd (omega arith)
+-- a give-back that is carried: the permit was the flat's, and is nobody's
+gave : (pool after : Pool) (flat permit a : ℕ) → pool_applies pool (GiveBack permit flat) ≡ Ok (Carried after a) → Gave pool after flat permit
+gave pool after flat permit a e =
+    let p = was_there (permit_numbered permit) (λ p. if_there (flat_numbered flat) (λ f. giving_back pool p f)) (Carried after a) e in
+    let f = was_there (flat_numbered flat) (λ f. giving_back pool p.0 f) (Carried after a) p.1.1 in
+    subst (Gave pool after flat) (sym (permit_is permit p.0 p.1.0)) (f.0, (flat_is flat f.0 f.1.0, gave_if pool after p.0 f.0 a _ refl f.1.1))
 
--- another permit than the one that is granted or given back keeps its holder
-others_stay : (pool after : Pool) (h : Holder) (changed permit : ℕ) → 1 ≤ changed → 1 ≤ permit → (permit ≡ changed → ⊥) → after.holders ≡ set pool.holders (changed - 1) h → flat_holding after permit ≡ flat_holding pool permit
-others_stay pool after h changed permit f g apart e =
-    ap (λ l. (get_or l (permit - 1) nobody).flat) e ∙ ap (λ (x : Holder). x.flat) (get_or-set_other pool.holders (changed - 1) (permit - 1) h nobody (λ z. apart (omega arith)))
+module _ (pool after : Pool) (changed : ℕ) (was is : Option Flat) (c : Changed pool after changed was is) where
+  -- the changed permit has its new holder, and any other keeps its own
+  changes : holding after changed ≡ is
+  changes = let w = pool.whole in ap (λ l. get_or l (changed - 1) None) c.now ∙ get_or-set_same pool.holders (changed - 1) is None (omega arith)
 
-module _ (flat permit : ℕ) (real : 1 ≤ flat) (from : 1 ≤ permit) where
-  step : (pool after : Pool) (c : PoolCommand) (a : ℕ) → pool_applies pool c ≡ Carried after a → flat_holding pool permit ≡ flat → (c ≡ GiveBack permit flat) ⊎ (flat_holding after permit ≡ flat)
+  others_stay : (permit : ℕ) → 1 ≤ permit → permit ≢ changed → holding after permit ≡ holding pool permit
+  others_stay permit from apart = ap (λ l. get_or l (permit - 1) None) c.now ∙ get_or-set_other pool.holders (changed - 1) (permit - 1) is None (λ z. apart (omega arith))
+
+module _ (holder : Flat) (flat permit : ℕ) (named : flat ≡ holder.number) (from : 1 ≤ permit) where
+  step : (pool after : Pool) (c : PoolCommand) (a : ℕ) → pool_applies pool c ≡ Ok (Carried after a) → holding pool permit ≡ Some holder → (c ≡ GiveBack permit flat) ⊎ (holding after permit ≡ Some holder)
   step pool after (Take other) a e held =
       let t = took pool after other a e in
-      inr (others_stay pool after t.holder a permit t.from from (λ z. omega (arith, ap (flat_holding pool) z, t.was_free)) t.now ∙ held)
+      inr (others_stay pool after a None (Some t.0) t.1.1 permit from (λ z. let free = ap (holding pool) z ∙ t.1.1.before in (cc)) ∙ held)
   step pool after (GiveBack given other) a e held =
       let g = gave pool after other given a e in
-      ⊎_elim (λ same. inl (let o : other ≡ flat = sym g.was_his ∙ ap (flat_holding pool) (sym same) ∙ held in let p = sym same in let r : GiveBack given other ≡ GiveBack permit flat = cc in r))
-      (λ apart. inr (others_stay pool after nobody given permit g.from from apart g.now ∙ held))
+      ⊎_elim (λ same. inl (let his = ap (holding pool) same ∙ g.1.1.before in let o = g.1.0 in cc))
+      (λ apart. inr (others_stay pool after given (Some g.0) None g.1.1 permit from apart ∙ held))
       (cases_eq permit given)
 
   -- a permit stays with its flat until that flat gives it back
-  stays : (pool after : Pool) (ds : List (Done PoolCommand)) → History pool_applies pool ds after → flat_holding pool permit ≡ flat → Among (GivesBack flat permit) ds ⊎ (flat_holding after permit ≡ flat)
+  stays : (pool after : Pool) (ds : List (Done PoolCommand)) → History pool_applies pool ds after → holding pool permit ≡ Some holder → Among (GivesBack flat permit) ds ⊎ (holding after permit ≡ Some holder)
   stays pool _ [] nothing held = inr held
   stays pool after (d ∷ ds) (one_more {v = v} _ h e) held =
       ⊎_elim (λ b. inl (further b))
-      (λ still. ⊎_elim (λ b. inl (first b)) (λ s. inr s) (step v after d.command d.answer e still))
+      (λ still. ⊎_elim (λ b. inl (first b)) inr (step v after d.command d.answer e still))
       (stays pool v ds h held)
 
-took_of : (pool after : Pool) (flat permit : ℕ) (d : Done PoolCommand) → Grants flat permit d → pool_applies pool d.command ≡ Carried after d.answer → Took pool after flat permit
+-- a permit that one flat took, and a flat takes again, was given back by the first in between
+between_takes : (p q r s : Pool) (flat other permit : ℕ) (between : List (Done PoolCommand)) → Took p q flat permit → History pool_applies q between r → Took r s other permit → Among (GivesBack flat permit) between
+between_takes p q r s flat other permit between one h again =
+    ⊎_elim (λ x. x) (λ still. let free = again.1.1.before in absurd (cc))
+    (stays one.0 flat permit one.1.0 one.1.1.from q r between h (changes p q permit None (Some one.0) one.1.1))
+
+took_of : (pool after : Pool) (flat permit : ℕ) (d : Done PoolCommand) → Grants flat permit d → pool_applies pool d.command ≡ Ok (Carried after d.answer) → Took pool after flat permit
 took_of pool after flat permit d g e =
     subst (Took pool after flat) g.answers (took pool after flat d.answer (ap (pool_applies pool) (sym g.takes) ∙ e))
 
@@ -122,12 +128,4 @@ given_back_between from to newer between older second one permit flat other h g 
     let b = newest pool_applies from second (between ++ (one ∷ older)) a.0 a.1.0 in
     let c = parts pool_applies from between (one ∷ older) b.0 b.1.0 in
     let d = newest pool_applies from one older c.0 c.1.0 in
-    let before = took_of d.0 c.0 flat permit one g d.1.1 in
-    let again = took_of b.0 a.0 other permit second k b.1.1 in
-    let held : flat_holding c.0 permit ≡ flat = his d.0 c.0 before in
-    ⊎_elim (λ x. x) (λ still. absurd (omega (arith, before.real, again.was_free, still))) (stays flat permit before.real before.from c.0 b.0 between c.1.1 held)
-  where
-    his : (p q : Pool) → Took p q flat permit → flat_holding q permit ≡ flat
-    his p q t =
-        let w = p.whole in
-        ap (λ l. (get_or l (permit - 1) nobody).flat) t.now ∙ ap (λ (x : Holder). x.flat) (get_or-set_same p.holders (permit - 1) t.holder nobody (omega (arith, t.from, t.to))) ∙ t.is
+    between_takes d.0 c.0 b.0 a.0 flat other permit between (took_of d.0 c.0 flat permit one g d.1.1) c.1.1 (took_of b.0 a.0 other permit second k b.1.1)

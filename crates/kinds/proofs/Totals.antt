@@ -1,5 +1,5 @@
 -- A total within the top is carried.
-use Rattle.std.proofs.Common.{◌≡◌, ℕ, ◌≤◌, ap, ◌∙◌, arith}
+use Rattle.std.proofs.Common.{◌≡◌, ℕ, ◌≤◌, Ok, ap, arith}
 use mathlib.Core.HLevel.{is_prop→PathP}
 use native.Mathlib.Bridge.{le_prop}
 use Rattle.protocol.specs.declared.kind.Applied.TheVariants.{Carried}
@@ -9,6 +9,6 @@ use Rattle.kinds.specs.Meters.{reaches}
 pub same_meter : (a b : Meter) → a.total ≡ b.total → a ≡ b
 same_meter a b p = λ i. record { total = p i; within = is_prop→PathP (λ j. p j ≤ 4000000000) (λ j. le_prop) a.within b.within i }
 
-pub carried : (m : Meter) (answer total : ℕ) → m.total ≡ total → answer ≡ total → (d : Dec (total ≤ 4000000000)) → Carried m answer ≡ reaches total d
-carried m answer total e a (yes h) = ap (λ x. Carried x answer) (same_meter m _ e) ∙ ap (λ x. Carried (record { total = total; within = h }) x) a
-carried m answer total e a (no h) = absurd (h (omega (arith, m.within)))
+pub carried : (m : Meter) (total : ℕ) (d : Dec (total ≤ 4000000000)) → m.total ≡ total → Ok (Carried m total) ≡ reaches total d
+carried m total (yes h) e = ap (λ x. Ok (Carried x total)) (same_meter m _ e)
+carried m total (no h) e = absurd (h (omega (arith, m.within)))

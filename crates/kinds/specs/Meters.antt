@@ -1,9 +1,10 @@
 -- The meter's rules.
-use Rattle.std.specs.Prelude.{◌≡◌, ℕ, ◌+◌, ◌≤◌, cond, ◌&&◌, Result, nat_le}
+use Rattle.std.specs.Prelude.{◌≡◌, ℕ, ◌+◌, ◌≤◌, cond, ◌&&◌, Ok, Err, Result, nat_le}
 use Rattle.std.proofs.Math.Decide.{dec_le}
 use Rattle.std.proofs.Common.{arith}
 use Rattle.protocol.specs.declared.kind.Applied.{Applied}
-use Rattle.protocol.specs.declared.kind.Applied.TheVariants.{Carried, Denied}
+use Rattle.protocol.specs.declared.kind.Applied.TheVariants.{Carried}
+use Rattle.protocol.specs.declared.kind.Denial.{Denial}
 use Rattle.protocol.specs.declared.kind.Denial.TheVariants.{CommandOutOfRange, TotalPassesTop}
 use Rattle.protocol.specs.declared.refusal.OutOfRange.{OutOfRange}
 use Rattle.protocol.specs.Rounds.{MadeWithin}
@@ -17,13 +18,13 @@ abbrev pub zero_meter : Meter
 zero_meter = record { total = 0; within = omega arith }
 
 -- a total is carried, and is its own answer, unless it is too great
-abbrev pub reaches : (total : ℕ) → Dec (total ≤ 4000000000) → Applied Meter
-reaches total (yes h) = Carried (record { total = total; within = h }) total
-reaches total (no h) = Denied TotalPassesTop
+abbrev pub reaches : (total : ℕ) → Dec (total ≤ 4000000000) → Result (Applied Meter) Denial
+reaches total (yes h) = Ok (Carried (record { total = total; within = h }) total)
+reaches total (no h) = Err TotalPassesTop
 
 -- a command adds 1 to 1,000,000
-abbrev pub add_to : Meter → ℕ → Applied Meter
+abbrev pub add_to : Meter → ℕ → Result (Applied Meter) Denial
 add_to m amount =
     cond (nat_le 1 amount && nat_le amount 1000000)
     (reaches (m.total + amount) (dec_le (m.total + amount) 4000000000))
-    (Denied CommandOutOfRange)
+    (Err CommandOutOfRange)

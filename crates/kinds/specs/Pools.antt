@@ -1,137 +1,138 @@
 -- The pool's rules.
-use Rattle.std.specs.Prelude.{◌≡◌, ℕ, zero, suc, ◌+◌, ◌-◌, ◌%◌, ◌<◌, ◌≤◌, Bool, cond, List, get_or, replicate, Some, None, count_by, Option, ◌==◌, ◌≢◌, nat_lt, slice_index_or, slice_set, refl}
+use Rattle.std.specs.Prelude.{◌≡◌, ℕ, zero, suc, ◌+◌, ◌-◌, ◌%◌, ◌<◌, ◌≤◌, Bool, cond, List, get_or, replicate, Some, None, is_some, is_none, Ok, Err, Result, count_by, Option, ◌==◌, ◌≢◌, slice_index_or, slice_set, refl}
+use Rattle.std.specs.Option.{option_eq}
 use Rattle.std.proofs.Common.{length-set, ◌∙◌, arith}
 use Rattle.std.proofs.Math.Decide.{dec_le}
 use Rattle.protocol.specs.declared.kind.Applied.{Applied}
-use Rattle.protocol.specs.declared.kind.Applied.TheVariants.{Carried, Denied}
+use Rattle.protocol.specs.declared.kind.Applied.TheVariants.{Carried}
+use Rattle.protocol.specs.declared.kind.Denial.{Denial}
 use Rattle.protocol.specs.declared.kind.Denial.TheVariants.{CommandOutOfRange, NoPermitFree, NotTheHolder}
-use Rattle.protocol.specs.Ranges.{Within, within?}
-use Rattle.kinds.specs.declared.pool.Holder.{Holder}
+use Rattle.protocol.specs.declared.refusal.OutOfRange.{OutOfRange}
+use Rattle.protocol.specs.Ranges.{within?}
+use Rattle.kinds.specs.declared.pool.Flat.{Flat}
 use Rattle.kinds.specs.declared.pool.Permit.{Permit}
 use Rattle.kinds.specs.declared.pool.Pool.{Pool}
 use Rattle.kinds.specs.declared.pool.PoolCommand.{PoolCommand}
 use Rattle.kinds.specs.declared.pool.PoolCommand.TheVariants.{Take, GiveBack}
 
--- the holder of a free permit
-abbrev pub nobody : Holder
-nobody = record { flat = 0; within = omega arith }
-
--- in a new pool every permit is free, and none was granted yet
+-- in a new pool nobody holds any permit, and none was granted yet
 unfoldable pub new_pool : Pool
-new_pool = record { holders = replicate 32 nobody; last = 0; whole = refl; last_within = omega arith }
+new_pool = record { holders = replicate 32 None; last = None; whole = refl }
 
-abbrev pub permit_in : (n : ℕ) → Dec (Within 1 32 n) → Option Permit
-permit_in n (yes h) = Some (record { number = n; from = h.0; within = h.1 })
-permit_in n (no h) = None
+-- a thing is made of a number that is in its range, and refused of any other
+abbrev pub made : {X R : Type 0} → (R → X) → Dec R → Result X OutOfRange
+made make (yes h) = Ok (make h)
+made make (no h) = Err (record {})
 
 -- the permits are numbered 1 to 32
-unfoldable pub permit_numbered : ℕ → Option Permit
-permit_numbered n = permit_in n (within? 1 32 n)
-
-abbrev pub flat_in : (n : ℕ) → Dec (Within 1 200 n) → Option Holder
-flat_in n (yes h) = Some (record { flat = n; within = h.1 })
-flat_in n (no h) = None
+unfoldable pub permit_numbered : ℕ → Result Permit OutOfRange
+permit_numbered n = made (λ h. record { number = n; from = h.0; within = h.1 }) (within? 1 32 n)
 
 -- the flats are numbered 1 to 200
-unfoldable pub flat_numbered : ℕ → Option Holder
-flat_numbered n = flat_in n (within? 1 200 n)
+unfoldable pub flat_numbered : ℕ → Result Flat OutOfRange
+flat_numbered n = made (λ h. record { number = n; from = h.0; within = h.1 }) (within? 1 200 n)
+
+-- the number of a permit, 0 where there is none
+abbrev pub number_or_zero : Option Permit → ℕ
+number_or_zero (Some p) = p.number
+number_or_zero None = 0
 
 abbrev pub next_in : (p : ℕ) → Dec (p + 1 ≤ 32) → Permit
 next_in p (yes h) = record { number = p + 1; from = omega arith; within = h }
 next_in p (no h) = record { number = 1; from = omega arith; within = omega arith }
 
--- the permit after p; after 32 comes 1
-unfoldable pub permit_after : ℕ → Permit
-permit_after p = next_in p (dec_le (p + 1) 32)
+-- the permit after p; after 32 comes 1, and before all comes none
+unfoldable pub permit_after : Option Permit → Permit
+permit_after p = next_in (number_or_zero p) (dec_le (number_or_zero p + 1) 32)
 
 -- who holds a permit
-abbrev pub holder_of : Pool → Permit → Holder
-holder_of pool p = slice_index_or pool.holders (p.number - 1) nobody
+abbrev pub holder_of : Pool → Permit → Option Flat
+holder_of pool p = slice_index_or pool.holders (p.number - 1) None
 
 -- a permit is free where nobody holds it
 abbrev pub free? : Pool → Permit → Bool
-free? pool p = (holder_of pool p).flat == 0
+free? pool p = is_none (holder_of pool p)
 
 -- THE SEARCH after p is the permit after p when that is free, else the search after it, with one fewer
 -- left to look at
-unfoldable pub search_after : Pool → ℕ → ℕ → Option Permit
+unfoldable pub search_after : Pool → Option Permit → ℕ → Option Permit
 search_after pool p zero = None
 search_after pool p (suc left) =
-    cond (free? pool (permit_after p)) (Some (permit_after p)) (search_after pool (permit_after p).number left)
+    cond (free? pool (permit_after p)) (Some (permit_after p)) (search_after pool (Some (permit_after p)) left)
 
 -- the search after the permit granted last, among all 32
 abbrev pub first_free : Pool → Option Permit
 first_free pool = search_after pool pool.last 32
 
--- the pool after a grant: this flat holds the permit, which is the one granted last
-abbrev pub granted : Pool → Permit → Holder → Pool
-granted pool p flat = record {
-  holders = slice_set pool.holders (p.number - 1) flat;
-  last = p.number;
-  whole = length-set pool.holders (p.number - 1) flat ∙ pool.whole;
-  last_within = p.within;
+-- the pool in which this is the holder of the permit
+abbrev pub with_holder : Pool → Permit → Option Flat → Pool
+with_holder pool p holder = record {
+  holders = slice_set pool.holders (p.number - 1) holder;
+  last = pool.last;
+  whole = length-set pool.holders (p.number - 1) holder ∙ pool.whole;
 }
+
+-- the pool after a grant: this flat holds the permit, which is the one granted last
+abbrev pub granted : Pool → Permit → Flat → Pool
+granted pool p flat = record (with_holder pool p (Some flat)) { last = Some p }
 
 -- the pool after a give-back: nobody holds the permit
 abbrev pub given_back : Pool → Permit → Pool
-given_back pool p = record {
-  holders = slice_set pool.holders (p.number - 1) nobody;
-  last = pool.last;
-  whole = length-set pool.holders (p.number - 1) nobody ∙ pool.whole;
-  last_within = pool.last_within;
-}
+given_back pool p = with_holder pool p None
 
 -- how many permits are held
-abbrev pub held_in : List Holder → ℕ
-held_in holders = count_by (λ h. nat_lt 0 h.flat) holders
+abbrev pub held_in : List (Option Flat) → ℕ
+held_in holders = count_by is_some holders
 
 abbrev pub count_of : Pool → ℕ
 count_of pool = held_in pool.holders
 
-abbrev pub granting : Pool → Holder → Option Permit → Applied Pool
-granting pool flat (Some p) = Carried (granted pool p flat) p.number
-granting pool flat None = Denied NoPermitFree
+abbrev pub granting : Pool → Flat → Option Permit → Result (Applied Pool) Denial
+granting pool flat (Some p) = Ok (Carried (granted pool p flat) p.number)
+granting pool flat None = Err NoPermitFree
 
 -- a take grants the first free permit after the last granted, and answers it
-abbrev pub taking : Pool → Holder → Applied Pool
+abbrev pub taking : Pool → Flat → Result (Applied Pool) Denial
 taking pool flat = granting pool flat (first_free pool)
 
+-- flats are told apart by their numbers
+abbrev pub one_flat? : Flat → Flat → Bool
+one_flat? a b = a.number == b.number
+
 -- a give-back by the holder answers how many permits stay held
-abbrev pub giving_back : Pool → Permit → Holder → Applied Pool
+abbrev pub giving_back : Pool → Permit → Flat → Result (Applied Pool) Denial
 giving_back pool p flat =
-    cond ((holder_of pool p).flat == flat.flat) (Carried (given_back pool p) (count_of (given_back pool p))) (Denied NotTheHolder)
+    cond (option_eq one_flat? (holder_of pool p) (Some flat))
+    (Ok (Carried (given_back pool p) (count_of (given_back pool p))))
+    (Err NotTheHolder)
 
-abbrev pub take_by : Pool → Option Holder → Applied Pool
-take_by pool (Some flat) = taking pool flat
-take_by pool None = Denied CommandOutOfRange
-
-abbrev pub give_back_by : Pool → Option Permit → Option Holder → Applied Pool
-give_back_by pool (Some p) (Some flat) = giving_back pool p flat
-give_back_by pool (Some p) None = Denied CommandOutOfRange
-give_back_by pool None flat = Denied CommandOutOfRange
+-- a command that names what there is not is denied
+abbrev pub if_there : {X : Type 0} → Result X OutOfRange → (X → Result (Applied Pool) Denial) → Result (Applied Pool) Denial
+if_there (Ok x) applied = applied x
+if_there (Err e) applied = Err CommandOutOfRange
 
 -- all the rules: a command out of range is denied first
-abbrev pub pool_applies : Pool → PoolCommand → Applied Pool
-pool_applies pool (Take flat) = take_by pool (flat_numbered flat)
-pool_applies pool (GiveBack permit flat) = give_back_by pool (permit_numbered permit) (flat_numbered flat)
+abbrev pub pool_applies : Pool → PoolCommand → Result (Applied Pool) Denial
+pool_applies pool (Take flat) = if_there (flat_numbered flat) (λ f. taking pool f)
+pool_applies pool (GiveBack permit flat) = if_there (permit_numbered permit) (λ p. if_there (flat_numbered flat) (λ f. giving_back pool p f))
 
 -- the permit at a distance after p, going round
 abbrev pub permit_at : ℕ → ℕ → ℕ
 permit_at p distance = (p + distance - 1) % 32 + 1
 
--- the number of the flat that holds a permit, 0 where nobody does
-abbrev pub flat_holding : Pool → ℕ → ℕ
-flat_holding pool permit = (get_or pool.holders (permit - 1) nobody).flat
+-- who holds the permit with this number
+abbrev pub holding : Pool → ℕ → Option Flat
+holding pool permit = get_or pool.holders (permit - 1) None
 
 -- a permit is free and stands at this distance after the last granted, and no nearer one is free
 pub record NearestAt (pool : Pool) (permit distance : ℕ) : Type 0 where
   pub from_one : 1 ≤ distance
   pub to_all : distance ≤ 32
-  pub there : permit ≡ permit_at pool.last distance
-  pub free : flat_holding pool permit ≡ 0
-  pub no_nearer : (d : ℕ) → 1 ≤ d → d < distance → flat_holding pool (permit_at pool.last d) ≢ 0
+  pub there : permit ≡ permit_at (number_or_zero pool.last) distance
+  pub free : holding pool permit ≡ None
+  pub no_nearer : (d : ℕ) → 1 ≤ d → d < distance → holding pool (permit_at (number_or_zero pool.last) d) ≢ None
 
 -- the nearest free permit after the last granted; none only where all are held
 abbrev pub NearestFree : Pool → Option Permit → Type 0
 NearestFree pool (Some p) = (distance : ℕ) × NearestAt pool p.number distance
-NearestFree pool None = (permit : ℕ) → 1 ≤ permit → permit ≤ 32 → flat_holding pool permit ≢ 0
+NearestFree pool None = (permit : ℕ) → 1 ≤ permit → permit ≤ 32 → holding pool permit ≢ None

@@ -7,31 +7,31 @@ pub mod search;
 pub mod theorems;
 
 // A permit, by its number: 1 to 32.
-#[derive(Clone, Copy)]
+#[derive(Clone, Copy, PartialEq, Eq, Debug)]
 pub struct Permit {
     pub number: u8,
     ghost from: { 1 ≤ number },
     ghost within: { number ≤ 32 },
 }
 
-// Who holds a permit: nobody (0), or the flat with this number, 1 to 200.
-#[derive(Clone, Copy)]
-pub struct Holder {
-    pub flat: u8,
-    ghost within: { flat ≤ 200 },
+// A flat, by its number: 1 to 200.
+#[derive(Clone, Copy, PartialEq, Eq, Debug)]
+pub struct Flat {
+    pub number: u8,
+    ghost from: { 1 ≤ number },
+    ghost within: { number ≤ 200 },
 }
 
-// The holders of permits 1 to 32 in their order, and the permit that was granted last, 0 before the
-// first grant.
+// Who holds permits 1 to 32, in their order, and the permit that was granted last.
 #[derive(Clone, Copy)]
 pub struct Pool {
-    pub holders: [Holder; 32],
-    pub last: u8,
+    pub holders: [Option<Flat>; 32],
+    pub last: Option<Permit>,
     ghost whole: { length holders ≡ 32 },
-    ghost last_within: { last ≤ 32 },
 }
 
-// What a flat asks of the pool: any permit for itself, or to give one back.
+// What a flat asks of the pool: any permit for itself, or to give one back. A number here may be any: one
+// that no flat or permit has is denied.
 #[derive(Clone, Copy)]
 pub enum PoolCommand {
     Take { flat: u8 },

@@ -10,10 +10,12 @@ pub const MOST_TOTAL: u32 = 4_000_000_000;
 
 pub const MOST_ADDED: u32 = 1_000_000;
 
-impl Meter {
-    pub fn new(total: u32) -> Result<Meter, OutOfRange>
-        ensures { MakesMeter total result }
-    {
+impl TryFrom<u32> for Meter {
+    type Error = OutOfRange;
+
+    ghost try_from_gives = { MakesMeter };
+
+    fn try_from(total: u32) -> Result<Meter, OutOfRange> {
         if total > MOST_TOTAL {
             return Err(OutOfRange {});
         }
@@ -32,15 +34,15 @@ impl Kind for Meter {
         Meter { total: 0 }
     }
 
-    fn apply(&self, command: &Add) -> Applied<Meter> {
+    fn apply(&self, command: &Add) -> Result<Applied<Meter>, Denial> {
         let amount = command.amount;
-        if amount < 1 || amount > MOST_ADDED {
-            return Applied::Denied(Denial::CommandOutOfRange);
+        if !(1..=MOST_ADDED).contains(&amount) {
+            return Err(Denial::CommandOutOfRange);
         }
         if amount > MOST_TOTAL - self.total {
-            return Applied::Denied(Denial::TotalPassesTop);
+            return Err(Denial::TotalPassesTop);
         }
         let total = self.total + amount;
-        Applied::Carried(Meter { total }, total)
+        Ok(Applied::Carried(Meter { total }, total))
     }
 }

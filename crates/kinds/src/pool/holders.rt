@@ -1,59 +1,56 @@
-// Permits by number, and who holds them.
+// Permits and flats by number, and who holds which permit.
 ghost use Rattle.std.specs.Prelude.{◌≡◌};
-ghost use Rattle.kinds.specs.Pools.{permit_numbered, permit_after, flat_numbered, nobody, holder_of, free?, count_of};
+ghost use Rattle.kinds.specs.Pools.{permit_numbered, permit_after, flat_numbered, holder_of, free?, count_of};
 
-use crate::pool::{Holder, Permit, Pool};
+use crate::pool::{Flat, Permit, Pool};
+use protocol::refusal::OutOfRange;
 
 // How many permits there are, and the greatest number of a flat.
 pub const PERMITS: u8 = 32;
 
 pub const MOST_FLAT: u8 = 200;
 
-impl Permit {
-    // The permit with this number; none out of its range.
-    pub(crate) fn numbered(number: u8) -> Option<Permit>
-        ensures { result ≡ permit_numbered number }
-    {
-        if 1 <= number && number <= PERMITS {
-            Some(Permit { number })
-        } else {
-            None
-        }
-    }
+impl TryFrom<u8> for Permit {
+    type Error = OutOfRange;
 
-    // The permit after this number, going round: after 32 comes 1.
-    pub(crate) fn after(number: u8) -> Permit
-        ensures { result ≡ permit_after number }
-    {
-        if number < PERMITS {
-            return Permit { number: number + 1 };
+    ghost try_from_gives = { λ number r. r ≡ permit_numbered number };
+
+    fn try_from(number: u8) -> Result<Permit, OutOfRange> {
+        if !(1..=PERMITS).contains(&number) {
+            return Err(OutOfRange {});
         }
-        Permit { number: 1 }
+        Ok(Permit { number })
     }
 }
 
-impl Holder {
-    // The holder of a free permit.
-    pub fn nobody() -> Holder
-        ensures { result ≡ nobody }
-    {
-        Holder { flat: 0 }
-    }
+impl TryFrom<u8> for Flat {
+    type Error = OutOfRange;
 
-    // The flat with this number as a holder; none out of its range.
-    pub(crate) fn numbered(flat: u8) -> Option<Holder>
-        ensures { result ≡ flat_numbered flat }
+    ghost try_from_gives = { λ number r. r ≡ flat_numbered number };
+
+    fn try_from(number: u8) -> Result<Flat, OutOfRange> {
+        if !(1..=MOST_FLAT).contains(&number) {
+            return Err(OutOfRange {});
+        }
+        Ok(Flat { number })
+    }
+}
+
+impl Permit {
+    // The permit after another, going round: after 32 comes 1, as it does where there is none before.
+    pub(crate) fn after(permit: Option<Permit>) -> Permit
+        ensures { result ≡ permit_after permit }
     {
-        if 1 <= flat && flat <= MOST_FLAT {
-            Some(Holder { flat })
-        } else {
-            None
+        match permit {
+            Some(Permit { number }) if number < PERMITS => Permit { number: number + 1 },
+            _ => Permit { number: 1 },
         }
     }
 }
 
 impl Pool {
-    pub fn holder_of(&self, permit: Permit) -> Holder
+    // Who holds the permit.
+    pub fn holder_of(&self, permit: Permit) -> Option<Flat>
         ensures { result ≡ holder_of self.now permit }
     {
         self.holders[permit.number as usize - 1]
@@ -62,19 +59,13 @@ impl Pool {
     pub fn is_free(&self, permit: Permit) -> bool
         ensures { result ≡ free? self.now permit }
     {
-        self.holder_of(permit).flat == 0
+        self.holder_of(permit).is_none()
     }
 
     // How many permits are held.
     pub fn held(&self) -> u32
         ensures { result ≡ count_of self.now }
     {
-        let mut held = 0;
-        for holder in &self.holders {
-            if holder.flat != 0 {
-                held += 1;
-            }
-        }
-        held
+        self.holders.iter().filter(|h| h.is_some()).count() as u32
     }
 }

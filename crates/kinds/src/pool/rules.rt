@@ -1,57 +1,39 @@
 // What a pool does with a command.
 ghost use Rattle.std.specs.Prelude.{◌≡◌};
-ghost use Rattle.kinds.specs.Pools.{new_pool, pool_applies, granted, given_back, taking, giving_back};
+ghost use Rattle.kinds.specs.Pools.{new_pool, pool_applies, with_holder, taking, giving_back};
 
-use crate::pool::{Holder, Permit, Pool, PoolCommand};
+use crate::pool::{Flat, Permit, Pool, PoolCommand};
 use protocol::kind::{Applied, Denial, Kind};
 
 impl Pool {
-    // The pool in which this flat holds the permit, which is the one granted last.
-    fn grant(&self, permit: Permit, flat: Holder) -> Pool
-        ensures { result ≡ granted self.now permit flat }
+    // The pool in which this is the holder of the permit.
+    fn with_holder(&self, permit: Permit, holder: Option<Flat>) -> Pool
+        ensures { result ≡ with_holder self.now permit holder }
     {
-        let mut holders = self.holders;
-        holders[permit.number as usize - 1] = flat;
-        Pool {
-            holders,
-            last: permit.number,
-        }
+        let mut pool = *self;
+        pool.holders[permit.number as usize - 1] = holder;
+        pool
     }
 
-    // The pool in which nobody holds the permit.
-    fn release(&self, permit: Permit) -> Pool
-        ensures { result ≡ given_back self.now permit }
-    {
-        let mut holders = self.holders;
-        holders[permit.number as usize - 1] = Holder::nobody();
-        Pool {
-            holders,
-            last: self.last,
-        }
-    }
-
-    // A take: the first free permit after the last granted.
-    fn take(&self, flat: Holder) -> Applied<Pool>
+    // A take: the first free permit after the last granted, which then is the last granted.
+    fn take(&self, flat: Flat) -> Result<Applied<Pool>, Denial>
         ensures { result ≡ taking self.now flat }
     {
-        match self.first_free() {
-            Some(permit) => {
-                let number = permit.number as u32;
-                Applied::Carried(self.grant(permit, flat), number)
-            }
-            None => Applied::Denied(Denial::NoPermitFree),
-        }
+        let permit = self.first_free().ok_or(Denial::NoPermitFree)?;
+        let mut pool = self.with_holder(permit, Some(flat));
+        pool.last = Some(permit);
+        Ok(Applied::Carried(pool, permit.number as u32))
     }
 
     // A give-back: only by the holder. The answer counts the permits that stay held.
-    fn give_back(&self, permit: Permit, flat: Holder) -> Applied<Pool>
+    fn give_back(&self, permit: Permit, flat: Flat) -> Result<Applied<Pool>, Denial>
         ensures { result ≡ giving_back self.now permit flat }
     {
-        if self.holder_of(permit).flat != flat.flat {
-            return Applied::Denied(Denial::NotTheHolder);
+        if self.holder_of(permit) != Some(flat) {
+            return Err(Denial::NotTheHolder);
         }
-        let after = self.release(permit);
-        Applied::Carried(after, after.held())
+        let after = self.with_holder(permit, None);
+        Ok(Applied::Carried(after, after.held()))
     }
 }
 
@@ -64,25 +46,16 @@ impl Kind for Pool {
 
     fn start() -> Pool {
         Pool {
-            holders: [Holder::nobody(); 32],
-            last: 0,
+            holders: [None; 32],
+            last: None,
         }
     }
 
-    fn apply(&self, command: &PoolCommand) -> Applied<Pool> {
+    fn apply(&self, command: &PoolCommand) -> Result<Applied<Pool>, Denial> {
         match *command {
-            PoolCommand::Take { flat } => match Holder::numbered(flat) {
-                Some(flat) => self.take(flat),
-                None => Applied::Denied(Denial::CommandOutOfRange),
-            },
+            PoolCommand::Take { flat } => self.take(Flat::try_from(flat)?),
             PoolCommand::GiveBack { permit, flat } => {
-                let Some(permit) = Permit::numbered(permit) else {
-                    return Applied::Denied(Denial::CommandOutOfRange);
-                };
-                let Some(flat) = Holder::numbered(flat) else {
-                    return Applied::Denied(Denial::CommandOutOfRange);
-                };
-                self.give_back(permit, flat)
+                self.give_back(Permit::try_from(permit)?, Flat::try_from(flat)?)
             }
         }
     }

@@ -6,8 +6,8 @@ use crate::pool::holders::PERMITS;
 use crate::pool::{Permit, Pool};
 
 // The search after a permit: the next one when that is free, else the search after the next one, with
-// one fewer left to look at.
-pub(crate) fn search(pool: &Pool, after: u8, left: u8) -> Option<Permit>
+// one fewer left to look at. Not a loop: the rule refers to itself, and the code follows it.
+pub(crate) fn search(pool: &Pool, after: Option<Permit>, left: u8) -> Option<Permit>
     ensures { result ≡ search_after pool.now after left }
 {
     if left == 0 {
@@ -17,7 +17,7 @@ pub(crate) fn search(pool: &Pool, after: u8, left: u8) -> Option<Permit>
     if pool.is_free(next) {
         Some(next)
     } else {
-        search(pool, next.number, left - 1)
+        search(pool, Some(next), left - 1)
     }
 }
 

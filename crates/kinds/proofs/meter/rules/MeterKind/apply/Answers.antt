@@ -8,4 +8,4 @@ returns c =
     let amount = c.args.command.now.amount in
     let total = c.args.self.now.total + amount in
     let within : (leb 1 amount && leb amount 1000000) ≡ true = search rules in
-    rw within (carried _ _ total (omega arith) (omega arith) (dec_le total 4000000000))
+    rw within (carried _ total (dec_le total 4000000000) (omega arith))

@@ -1,0 +1,14 @@
+use Rattle.std.proofs.Common.{arith}
+use Rattle.std.proofs.lemmas.Bool.Decides.{nat_tests}
+use Rattle.protocol.specs.Ranges.{within?}
+use Rattle.kinds.specs.Pools.{permit_numbered}
+use Rattle.kinds.proofs.Permits.{same_permit, is_made, not_made}
+use Rattle.kinds.proofs.pool.holders.PermitTryFromU8.try_from.Goals as goal
+
+pub returns-then-not-contains : goal.returns-then-not-contains
+unfolding permit_numbered
+returns-then-not-contains c = not_made _ (λ w. grind (arith, nat_tests)) (within? 1 32 c.args.number)
+
+pub returns : goal.returns
+unfolding permit_numbered
+returns c = is_made _ _ (omega arith, omega arith) (λ h. same_permit _ _ (omega arith)) (within? 1 32 c.args.number)
