@@ -41,7 +41,7 @@ abbrev pub next_in : (p : ℕ) → Dec (p + 1 ≤ 32) → Permit
 next_in p (yes h) = record { number = p + 1; from = omega arith; within = h }
 next_in p (no h) = record { number = 1; from = omega arith; within = omega arith }
 
--- the permit after p; after 32 comes 1, and before all comes none
+-- the permit after p; 1 comes after 32, and after none
 unfoldable pub permit_after : Option Permit → Permit
 permit_after p = next_in (number_or_zero p) (dec_le (number_or_zero p + 1) 32)
 
