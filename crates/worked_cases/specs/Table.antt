@@ -1,5 +1,5 @@
 -- The table of worked cases.
-use Rattle.std.specs.Prelude.{ℕ, List, [], ◌∷◌, replicate, slice_set, refl}
+use Rattle.std.specs.Prelude.{ℕ, List, [], ◌∷◌, Some, None, replicate, slice_set, refl}
 use Rattle.std.proofs.Common.{arith}
 use Rattle.protocol.specs.declared.message.Access.TheVariants.{Write}
 use Rattle.protocol.specs.declared.message.Body.{Body}
@@ -7,11 +7,12 @@ use Rattle.protocol.specs.declared.message.Body.TheVariants.{Prepare, PrepareAt,
 use Rattle.protocol.specs.declared.message.Message.{Message}
 use Rattle.protocol.specs.declared.message.Number.{Number}
 use Rattle.kinds.specs.declared.meter.Meter.{Meter}
-use Rattle.kinds.specs.declared.pool.Holder.{Holder}
+use Rattle.kinds.specs.declared.pool.Flat.{Flat}
+use Rattle.kinds.specs.declared.pool.Permit.{Permit}
 use Rattle.kinds.specs.declared.pool.Pool.{Pool}
 use Rattle.kinds.specs.declared.pool.PoolCommand.{PoolCommand}
 use Rattle.kinds.specs.declared.pool.PoolCommand.TheVariants.{Take, GiveBack}
-use Rattle.kinds.specs.Pools.{new_pool, nobody, pool_applies}
+use Rattle.kinds.specs.Pools.{new_pool, pool_applies}
 use Rattle.once.specs.declared.layer.Request.{Request}
 use Rattle.fields.specs.Forms.{num, letter}
 use Rattle.worked_cases.specs.Cases.{Case, of_pool, of_layer, of_keeper, carried, already, denied, replied, refused, after}
@@ -20,12 +21,15 @@ use Rattle.worked_cases.specs.Cases.{Case, of_pool, of_layer, of_keeper, carried
 abbrev new_pool_after : List PoolCommand → Pool
 new_pool_after commands = after pool_applies new_pool commands
 
-abbrev flat_1 : Holder
-flat_1 = record { flat = 1; within = omega arith }
+abbrev flat_1 : Flat
+flat_1 = record { number = 1; from = omega arith; within = omega arith }
+
+abbrev permit_32 : Permit
+permit_32 = record { number = 32; from = omega arith; within = omega arith }
 
 -- flat 1 holds every permit but the fifth, and the last granted is 32
 abbrev only_5_free : Pool
-only_5_free = record { holders = slice_set (replicate 32 flat_1) 4 nobody; last = 32; whole = refl; last_within = omega arith }
+only_5_free = record { holders = slice_set (replicate 32 (Some flat_1)) 4 None; last = Some permit_32; whole = refl }
 
 -- hub 3 asks with this number
 abbrev hub_3 : ℕ → PoolCommand → Request PoolCommand
