@@ -1,22 +1,21 @@
 -- The law of grants: a held permit changes hands only by a give-back of its holder.
-use Rattle.std.proofs.Common.{◌≡◌, ◌≢◌, ℕ, ◌-◌, ◌≤◌, Bool, true, false, cond, ◌⊎◌, List, [], ◌∷◌, ◌++◌, get_or, set, Some, None, Option, Ok, Err, Result, sym, refl, ap, ◌∙◌, subst, inl, inr, ⊎_elim, arith}
+use Rattle.std.proofs.Common.{◌≡◌, ◌≢◌, ℕ, ◌-◌, ◌≤◌, Bool, true, false, cond, ◌⊎◌, List, [], ◌∷◌, ◌++◌, get_or, set, Some, None, Option, Ok, Err, sym, refl, ap, ◌∙◌, subst, inl, inr, ⊎_elim, arith}
 use Rattle.std.specs.Option.{option_eq}
 use Rattle.std.proofs.lemmas.List.{get_or-set_same, get_or-set_other}
 use Rattle.std.proofs.lemmas.Bool.{eqb-true, cases_eq}
-use Rattle.protocol.specs.declared.kind.Applied.{Applied}
 use Rattle.protocol.specs.declared.kind.Applied.TheVariants.{Carried}
-use Rattle.protocol.specs.declared.kind.Denial.{Denial}
 use Rattle.protocol.specs.declared.kind.Denial.TheVariants.{NotTheHolder}
-use Rattle.protocol.specs.declared.refusal.OutOfRange.{OutOfRange}
 use Rattle.protocol.specs.Histories.{Done, History, nothing, one_more, Among, first, further}
 use Rattle.protocol.specs.Ranges.{within?}
+use Rattle.protocol.specs.Refusals.{if_there}
 use Rattle.protocol.proofs.Histories.{newest, parts}
+use Rattle.protocol.proofs.Made.{made_of, was_there}
 use Rattle.kinds.specs.declared.pool.Flat.{Flat}
 use Rattle.kinds.specs.declared.pool.Permit.{Permit}
 use Rattle.kinds.specs.declared.pool.Pool.{Pool}
 use Rattle.kinds.specs.declared.pool.PoolCommand.{PoolCommand}
 use Rattle.kinds.specs.declared.pool.PoolCommand.TheVariants.{Take, GiveBack}
-use Rattle.kinds.specs.Pools.{made, permit_numbered, flat_numbered, if_there, granting, granted, given_back, taking, giving_back, one_flat?, first_free, pool_applies, count_of, holder_of, holding, NearestFree}
+use Rattle.kinds.specs.Pools.{permit_numbered, flat_numbered, granting, granted, given_back, taking, giving_back, one_flat?, first_free, pool_applies, count_of, holder_of, holding, NearestFree}
 use Rattle.kinds.specs.Grants.{Grants, GivesBack, GivenBackBetween}
 use Rattle.kinds.proofs.Permits.{same_flat}
 use Rattle.kinds.proofs.Searches.{nearest}
@@ -34,10 +33,6 @@ Took pool after flat permit = (f : Flat) × ((flat ≡ f.number) × Changed pool
 abbrev Gave : Pool → Pool → ℕ → ℕ → Type 0
 Gave pool after flat permit = (f : Flat) × ((flat ≡ f.number) × Changed pool after permit (Some f) None)
 
-made_of : {X R : Type 0} (make : R → X) (x : X) (d : Dec R) → made make d ≡ Ok x → (h : R) × (make h ≡ x)
-made_of make x (yes h) e = (h, cc)
-made_of make x (no h) e = absurd (cc)
-
 flat_is : (n : ℕ) (f : Flat) → flat_numbered n ≡ Ok f → n ≡ f.number
 unfolding flat_numbered
 flat_is n f e = ap (λ (x : Flat). x.number) (made_of _ f (within? 1 200 n) e).1
@@ -45,10 +40,6 @@ flat_is n f e = ap (λ (x : Flat). x.number) (made_of _ f (within? 1 200 n) e).1
 permit_is : (n : ℕ) (p : Permit) → permit_numbered n ≡ Ok p → n ≡ p.number
 unfolding permit_numbered
 permit_is n p e = ap (λ (x : Permit). x.number) (made_of _ p (within? 1 32 n) e).1
-
-was_there : {X : Type 0} (r : Result X OutOfRange) (applied : X → Result (Applied Pool) Denial) (v : Applied Pool) → if_there r applied ≡ Ok v → (x : X) × ((r ≡ Ok x) × (applied x ≡ Ok v))
-was_there (Ok x) applied v e = (x, (refl, e))
-was_there (Err o) applied v e = absurd (cc)
 
 took_if : (pool after : Pool) (f : Flat) (a : ℕ) (o : Option Permit) → NearestFree pool o → granting pool f o ≡ Ok (Carried after a) → Changed pool after a None (Some f)
 took_if pool after f a (Some p) near e =

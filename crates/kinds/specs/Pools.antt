@@ -6,9 +6,10 @@ use Rattle.std.proofs.Math.Decide.{dec_le}
 use Rattle.protocol.specs.declared.kind.Applied.{Applied}
 use Rattle.protocol.specs.declared.kind.Applied.TheVariants.{Carried}
 use Rattle.protocol.specs.declared.kind.Denial.{Denial}
-use Rattle.protocol.specs.declared.kind.Denial.TheVariants.{CommandOutOfRange, NoPermitFree, NotTheHolder}
+use Rattle.protocol.specs.declared.kind.Denial.TheVariants.{NoPermitFree, NotTheHolder}
 use Rattle.protocol.specs.declared.refusal.OutOfRange.{OutOfRange}
-use Rattle.protocol.specs.Ranges.{within?}
+use Rattle.protocol.specs.Ranges.{within?, made}
+use Rattle.protocol.specs.Refusals.{if_there}
 use Rattle.kinds.specs.declared.pool.Flat.{Flat}
 use Rattle.kinds.specs.declared.pool.Permit.{Permit}
 use Rattle.kinds.specs.declared.pool.Pool.{Pool}
@@ -18,11 +19,6 @@ use Rattle.kinds.specs.declared.pool.PoolCommand.TheVariants.{Take, GiveBack}
 -- in a new pool nobody holds any permit, and none was granted yet
 unfoldable pub new_pool : Pool
 new_pool = record { holders = replicate 32 None; last = None; whole = refl }
-
--- a thing is made of a number that is in its range, and refused of any other
-abbrev pub made : {X R : Type 0} → (R → X) → Dec R → Result X OutOfRange
-made make (yes h) = Ok (make h)
-made make (no h) = Err (record {})
 
 -- the permits are numbered 1 to 32
 unfoldable pub permit_numbered : ℕ → Result Permit OutOfRange
@@ -105,11 +101,6 @@ giving_back pool p flat =
     cond (option_eq one_flat? (holder_of pool p) (Some flat))
     (Ok (Carried (given_back pool p) (count_of (given_back pool p))))
     (Err NotTheHolder)
-
--- a command that names what there is not is denied
-abbrev pub if_there : {X : Type 0} → Result X OutOfRange → (X → Result (Applied Pool) Denial) → Result (Applied Pool) Denial
-if_there (Ok x) applied = applied x
-if_there (Err e) applied = Err CommandOutOfRange
 
 -- all the rules: a command out of range is denied first
 abbrev pub pool_applies : Pool → PoolCommand → Result (Applied Pool) Denial

@@ -1,7 +1,8 @@
 -- The numbers that a fitter reads.
-use Rattle.std.specs.Prelude.{ℕ}
+use Rattle.std.specs.Prelude.{ℕ, Ok, Err, Result}
 use Rattle.protocol.specs.declared.refusal.Reason.{Reason}
 use Rattle.protocol.specs.declared.refusal.Reason.TheVariants as reason
+use Rattle.protocol.specs.declared.refusal.OutOfRange.{OutOfRange}
 use Rattle.protocol.specs.declared.refusal.StoreRefusal.{StoreRefusal}
 use Rattle.protocol.specs.declared.refusal.StoreRefusal.TheVariants as store
 use Rattle.protocol.specs.declared.kind.Denial.{Denial}
@@ -35,3 +36,8 @@ denial_number denial.NoPermitFree = 2
 denial_number denial.NotTheHolder = 3
 denial_number denial.TotalPassesTop = 4
 denial_number denial.NumberBelowLast = 6
+
+-- a command that names what there is not is out of range
+abbrev pub if_there : {X A : Type 0} → Result X OutOfRange → (X → Result A Denial) → Result A Denial
+if_there (Ok x) applied = applied x
+if_there (Err e) applied = Err denial.CommandOutOfRange

@@ -2,7 +2,8 @@ use Rattle.std.proofs.Common.{arith}
 use Rattle.std.proofs.lemmas.Bool.Decides.{nat_tests}
 use Rattle.protocol.specs.Ranges.{within?}
 use Rattle.kinds.specs.Pools.{permit_numbered}
-use Rattle.kinds.proofs.Permits.{same_permit, is_made, not_made}
+use Rattle.protocol.proofs.Made.{is_made, not_made}
+use Rattle.kinds.proofs.Permits.{same_permit}
 use Rattle.kinds.proofs.pool.holders.PermitTryFromU8.try_from.Goals as goal
 
 pub returns-then-not-contains : goal.returns-then-not-contains
