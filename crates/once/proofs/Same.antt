@@ -1,5 +1,5 @@
 -- Two sessions, tables or writers are the same where their numbers are: a range has one proof.
-use Rattle.std.proofs.Common.{◌≡◌, ℕ, ◌^◌, ◌≤◌, List, length, set, Some, None, refl, ap, ◌∙◌}
+use Rattle.std.proofs.Common.{◌≡◌, ℕ, ◌^◌, ◌≤◌, List, length, set, Ok, Err, refl, ap, ◌∙◌}
 use mathlib.Core.HLevel.{is_prop→PathP}
 use native.Mathlib.Bridge.{le_prop}
 use native.Mathlib.Nat.{ℕ_set}
@@ -9,7 +9,7 @@ use Rattle.once.specs.declared.layer.Sessions.{Sessions}
 use Rattle.once.specs.declared.layer.Writer.{Writer}
 use Rattle.once.specs.Layers.{writer_in, writer_of}
 
-pub same_session : (a b : Session) → a.number ≡ b.number → a.answer ≡ b.answer → a ≡ b
+same_session : (a b : Session) → a.number ≡ b.number → a.answer ≡ b.answer → a ≡ b
 same_session a b p q = λ i. record {
   number = p i;
   answer = q i;
@@ -33,20 +33,20 @@ same_writer v w p q = λ i. record {
   number_within = is_prop→PathP (λ j. q j ≤ 2 ^ 40) (λ j. le_prop) v.number_within w.number_within i;
 }
 
-writer_some : (w : Writer) (d : Dec (Within 1 15 w.hub)) (e : Dec (Within 1 (2 ^ 40) w.number)) → Some w ≡ writer_in w.hub w.number d e
-writer_some w (yes h) (yes n) = ap Some (same_writer w _ refl refl)
-writer_some w (yes h) (no n) = absurd (n (w.number_from, w.number_within))
-writer_some w (no h) n = absurd (h (w.hub_from, w.hub_within))
+writer_ok : (w : Writer) (d : Dec (Within 1 15 w.hub)) (e : Dec (Within 1 (2 ^ 40) w.number)) → Ok w ≡ writer_in w.hub w.number d e
+writer_ok w (yes h) (yes n) = ap Ok (same_writer w _ refl refl)
+writer_ok w (yes h) (no n) = absurd (n (w.number_from, w.number_within))
+writer_ok w (no h) n = absurd (h (w.hub_from, w.hub_within))
 
-writer_none : (hub number : ℕ) → (Within 1 15 hub → Within 1 (2 ^ 40) number → ⊥) → (d : Dec (Within 1 15 hub)) (e : Dec (Within 1 (2 ^ 40) number)) → None ≡ writer_in hub number d e
-writer_none hub number out (yes h) (yes n) = absurd (out h n)
-writer_none hub number out (yes h) (no n) = refl
-writer_none hub number out (no h) n = refl
+writer_err : (hub number : ℕ) → (Within 1 15 hub → Within 1 (2 ^ 40) number → ⊥) → (d : Dec (Within 1 15 hub)) (e : Dec (Within 1 (2 ^ 40) number)) → Err (record {}) ≡ writer_in hub number d e
+writer_err hub number out (yes h) (yes n) = absurd (out h n)
+writer_err hub number out (yes h) (no n) = refl
+writer_err hub number out (no h) n = refl
 
-pub is_writer : (w : Writer) → Some w ≡ writer_of w.hub w.number
+pub is_writer : (w : Writer) → Ok w ≡ writer_of w.hub w.number
 unfolding writer_of
-is_writer w = writer_some w (within? 1 15 w.hub) (within? 1 (2 ^ 40) w.number)
+is_writer w = writer_ok w (within? 1 15 w.hub) (within? 1 (2 ^ 40) w.number)
 
-pub no_writer : (hub number : ℕ) → (Within 1 15 hub → Within 1 (2 ^ 40) number → ⊥) → None ≡ writer_of hub number
+pub no_writer : (hub number : ℕ) → (Within 1 15 hub → Within 1 (2 ^ 40) number → ⊥) → Err (record {}) ≡ writer_of hub number
 unfolding writer_of
-no_writer hub number out = writer_none hub number out (within? 1 15 hub) (within? 1 (2 ^ 40) number)
+no_writer hub number out = writer_err hub number out (within? 1 15 hub) (within? 1 (2 ^ 40) number)

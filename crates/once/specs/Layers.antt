@@ -1,9 +1,14 @@
 -- The rules of the once-only layer, over the rules of the kind below.
-use Rattle.std.specs.Prelude.{ℕ, ◌-◌, ◌^◌, cond, replicate, Some, None, Option, ◌==◌, nat_lt, slice_index_or, slice_set, refl}
+use Rattle.std.specs.Prelude.{ℕ, ◌-◌, ◌^◌, replicate, Ok, Err, Result, slice_index_or, slice_set, refl}
+use Rattle.std.specs.declared.cmp.Ordering.{Ordering}
+use Rattle.std.specs.declared.cmp.Ordering.TheVariants.{Less, Equal, Greater}
+use Rattle.std.specs.Ordering.{nat_cmp}
 use Rattle.std.proofs.Common.{length-set, ◌∙◌, arith}
 use Rattle.protocol.specs.declared.kind.Applied.{Applied}
-use Rattle.protocol.specs.declared.kind.Applied.TheVariants.{Carried, Already, Denied}
+use Rattle.protocol.specs.declared.kind.Applied.TheVariants.{Carried, Already}
+use Rattle.protocol.specs.declared.kind.Denial.{Denial}
 use Rattle.protocol.specs.declared.kind.Denial.TheVariants.{CommandOutOfRange, NumberBelowLast}
+use Rattle.protocol.specs.declared.refusal.OutOfRange.{OutOfRange}
 use Rattle.protocol.specs.Ranges.{Within, within?}
 use Rattle.once.specs.declared.layer.Once.{Once}
 use Rattle.once.specs.declared.layer.Request.{Request}
@@ -22,13 +27,13 @@ new_sessions = record { table = replicate 15 no_session; whole = refl }
 abbrev pub new_layer : {K : Type 0} → K → Once K
 new_layer first = record { sessions = new_sessions; below = first }
 
-abbrev pub writer_in : (hub number : ℕ) → Dec (Within 1 15 hub) → Dec (Within 1 (2 ^ 40) number) → Option Writer
-writer_in hub number (yes h) (yes n) = Some (record { hub = hub; number = number; hub_from = h.0; hub_within = h.1; number_from = n.0; number_within = n.1 })
-writer_in hub number (yes h) (no n) = None
-writer_in hub number (no h) n = None
+abbrev pub writer_in : (hub number : ℕ) → Dec (Within 1 15 hub) → Dec (Within 1 (2 ^ 40) number) → Result Writer OutOfRange
+writer_in hub number (yes h) (yes n) = Ok (record { hub = hub; number = number; hub_from = h.0; hub_within = h.1; number_from = n.0; number_within = n.1 })
+writer_in hub number (yes h) (no n) = Err (record {})
+writer_in hub number (no h) n = Err (record {})
 
 -- hubs are 1 to 15, the numbers of their writes 1 to 2 ^ 40
-unfoldable pub writer_of : ℕ → ℕ → Option Writer
+unfoldable pub writer_of : ℕ → ℕ → Result Writer OutOfRange
 writer_of hub number = writer_in hub number (within? 1 15 hub) (within? 1 (2 ^ 40) number)
 
 -- a hub's entry
@@ -43,25 +48,25 @@ noted s w answer = record {
 }
 
 -- a write that is carried: the value below after it, and the writer's new entry
-abbrev pub carried_by : {K : Type 0} → Once K → Writer → K → ℕ → Applied (Once K)
-carried_by v w below answer = Carried (record { sessions = noted v.sessions w answer; below = below }) answer
+abbrev carried_by : {K : Type 0} → Once K → Writer → K → ℕ → Result (Applied (Once K)) Denial
+carried_by v w below answer = Ok (Carried (record { sessions = noted v.sessions w answer; below = below }) answer)
 
 -- what comes of what came below: unless that was denied, the write is carried, with the answer from below
-abbrev pub noting : {K : Type 0} → Once K → Writer → Applied K → Applied (Once K)
-noting v w (Carried below answer) = carried_by v w below answer
-noting v w (Already answer) = carried_by v w v.below answer
-noting v w (Denied denial) = Denied denial
+abbrev pub noting : {K : Type 0} → Once K → Writer → Result (Applied K) Denial → Result (Applied (Once K)) Denial
+noting v w (Ok (Carried below answer)) = carried_by v w below answer
+noting v w (Ok (Already answer)) = carried_by v w v.below answer
+noting v w (Err denial) = Err denial
 
 -- a number below the hub's last is denied, the last one was carried already, a greater one is applied below
-abbrev pub writing : {K C : Type 0} → (K → C → Applied K) → Once K → C → Option Writer → Applied (Once K)
-writing applies v command None = Denied CommandOutOfRange
-writing applies v command (Some w) =
-    cond (nat_lt w.number (session_of v.sessions w.hub).number)
-    (Denied NumberBelowLast)
-    (cond (w.number == (session_of v.sessions w.hub).number)
-    (Already (session_of v.sessions w.hub).answer)
-    (noting v w (applies v.below command)))
+abbrev pub by_number : {K : Type 0} → Once K → Writer → Result (Applied K) Denial → Ordering → Result (Applied (Once K)) Denial
+by_number v w came Less = Err NumberBelowLast
+by_number v w came Equal = Ok (Already (session_of v.sessions w.hub).answer)
+by_number v w came Greater = noting v w came
+
+abbrev pub writing : {K C : Type 0} → (K → C → Result (Applied K) Denial) → Once K → C → Result Writer OutOfRange → Result (Applied (Once K)) Denial
+writing applies v command (Err e) = Err CommandOutOfRange
+writing applies v command (Ok w) = by_number v w (applies v.below command) (nat_cmp w.number (session_of v.sessions w.hub).number)
 
 -- all the rules: a request out of range is denied first
-abbrev pub once_applies : {K C : Type 0} → (K → C → Applied K) → Once K → Request C → Applied (Once K)
+abbrev pub once_applies : {K C : Type 0} → (K → C → Result (Applied K) Denial) → Once K → Request C → Result (Applied (Once K)) Denial
 once_applies applies v r = writing applies v r.command (writer_of r.hub r.number)

@@ -7,6 +7,8 @@ pub mod theorems;
 
 // The number of a hub's last write that was carried, and the answer it was given; 0 and 0 before the
 // first.
+// No Option in the table: an entry may have the number 0, so None would say a second time that no
+// write counted yet.
 #[derive(Clone, Copy)]
 pub struct Session {
     pub number: u64,
@@ -15,6 +17,7 @@ pub struct Session {
 }
 
 // The sessions of hubs 1 to 15 in their order.
+// A plain array: the layer allocates nothing, and a value has one fixed size.
 #[derive(Clone, Copy)]
 pub struct Sessions {
     pub table: [Session; 15],

@@ -1,29 +1,23 @@
 // What the layer does with a request.
 ghost use Rattle.std.specs.Prelude.{◌≡◌};
-ghost use Rattle.once.specs.Layers.{new_layer, once_applies, carried_by, noting};
+ghost use Rattle.once.specs.Layers.{new_layer, once_applies, noting};
 
 use crate::layer::{Once, Request, Sessions, Writer};
 use protocol::kind::{Applied, Denial, Kind};
+use std::cmp::Ordering;
 
 impl<K: Kind> Once<K> {
-    // The layer after a write that was carried: the value below, and the writer's new entry.
-    fn carry(&self, writer: Writer, below: K, answer: u32) -> Applied<Once<K>>
-        ensures { result ≡ carried_by self.now writer below answer }
+    // A new write: unless it is denied below, it is carried, with the value and the answer from below.
+    fn write(&self, writer: Writer, command: &K::Command) -> Result<Applied<Once<K>>, Denial>
+        ensures { result ≡ noting self.now writer (K.Kind.applies self.now.below command.now) }
     {
+        let (below, answer) = match self.below.apply(command)? {
+            Applied::Carried(below, answer) => (below, answer),
+            Applied::Already(answer) => (self.below, answer),
+        };
         let mut sessions = self.sessions;
         sessions.note(writer, answer);
-        Applied::Carried(Once { sessions, below }, answer)
-    }
-
-    // What comes of what came below: unless that was denied, the write is carried.
-    fn settle(&self, writer: Writer, came: Applied<K>) -> Applied<Once<K>>
-        ensures { result ≡ noting self.now writer came }
-    {
-        match came {
-            Applied::Carried(below, answer) => self.carry(writer, below, answer),
-            Applied::Already(answer) => self.carry(writer, self.below, answer),
-            Applied::Denied(denial) => Applied::Denied(denial),
-        }
+        Ok(Applied::Carried(Once { sessions, below }, answer))
     }
 }
 
@@ -41,18 +35,13 @@ impl<K: Kind> Kind for Once<K> {
         }
     }
 
-    fn apply(&self, request: &Request<K::Command>) -> Applied<Once<K>> {
-        let Some(writer) = Writer::of(request.hub, request.number) else {
-            return Applied::Denied(Denial::CommandOutOfRange);
-        };
+    fn apply(&self, request: &Request<K::Command>) -> Result<Applied<Once<K>>, Denial> {
+        let writer = Writer::try_from(request)?;
         let last = self.sessions.of(writer);
-        if writer.number < last.number {
-            return Applied::Denied(Denial::NumberBelowLast);
+        match writer.number.cmp(&last.number) {
+            Ordering::Less => Err(Denial::NumberBelowLast),
+            Ordering::Equal => Ok(Applied::Already(last.answer)),
+            Ordering::Greater => self.write(writer, &request.command),
         }
-        if writer.number == last.number {
-            return Applied::Already(last.answer);
-        }
-        let came = self.below.apply(&request.command);
-        self.settle(writer, came)
     }
 }

@@ -1,20 +1,33 @@
 // The table of sessions.
-ghost use Rattle.std.specs.Prelude.{◌≡◌};
+ghost use Rattle.std.specs.Prelude.{◌≡◌, ◌-◌};
 ghost use Rattle.once.specs.Layers.{no_session, new_sessions, session_of, noted, writer_of};
 
-use crate::layer::{Session, Sessions, Writer};
+use crate::layer::{Request, Session, Sessions, Writer};
 use protocol::making::TOP;
+use protocol::refusal::OutOfRange;
+
+// The hub and number of a request that is in range.
+impl<C> TryFrom<&Request<C>> for Writer {
+    type Error = OutOfRange;
+
+    ghost try_from_gives = { λ request r. r ≡ writer_of request.now.hub request.now.number };
+
+    fn try_from(request: &Request<C>) -> Result<Writer, OutOfRange> {
+        let hub = request.hub;
+        let number = request.number;
+        if !(1..=15).contains(&hub) || !(1..=TOP).contains(&number) {
+            return Err(OutOfRange {});
+        }
+        Ok(Writer { hub, number })
+    }
+}
 
 impl Writer {
-    // The hub and number of a request; none out of range.
-    pub(crate) fn of(hub: u8, number: u64) -> Option<Writer>
-        ensures { result ≡ writer_of hub number }
+    // Where the writer's entry stands in the table.
+    fn place(self) -> usize
+        ensures { result ≡ self.hub - 1 }
     {
-        if 1 <= hub && hub <= 15 && 1 <= number && number <= TOP {
-            Some(Writer { hub, number })
-        } else {
-            None
-        }
+        usize::from(self.hub) - 1
     }
 }
 
@@ -42,8 +55,7 @@ impl Sessions {
     pub(crate) fn of(&self, writer: Writer) -> Session
         ensures { result ≡ session_of self.now writer.hub }
     {
-        let place = writer.hub as usize - 1;
-        self.table[place]
+        self.table[writer.place()]
     }
 
     // Replaces the writer's entry, and no other.
@@ -51,6 +63,6 @@ impl Sessions {
         ensures { self.new ≡ noted self.old writer answer }
     {
         let number = writer.number;
-        self.table[writer.hub as usize - 1] = Session { number, answer };
+        self.table[writer.place()] = Session { number, answer };
     }
 }
