@@ -1,5 +1,5 @@
 -- What a request that is carried leaves in the table.
-use Rattle.std.proofs.Common.{◌≡◌, ℕ, ◌-◌, ◌^◌, ◌<◌, ◌≤◌, Ok, Err, Result, Ordering, Less, Equal, Greater, nat_cmp, ap, subst, arith}
+use Rattle.std.proofs.Common.{◌≡◌, ℕ, ◌-◌, ◌^◌, ◌<◌, ◌≤◌, Ok, Err, Result, Ordering, Less, Equal, Greater, ap, subst, arith}
 use Rattle.std.proofs.lemmas.List.{get_or-set_same, get_or-set_other}
 use Rattle.std.specs.Cmp.{ranks}
 use Rattle.std.specs.Ordering.{MatchOrdering}
@@ -46,6 +46,7 @@ module _ {K C : Type 0} (applies : K → C → Result (Applied K) Denial) (v : O
   WroteIfCarried hub number (Ok (Already answer)) = Unit {0}
   WroteIfCarried hub number (Err denial) = Unit {0}
 
+  -- by how its number stands to the hub's last
   numbered : (w : Writer) (came : Result (Applied K) Denial) (o : Ordering) → MatchOrdering o (w.number < (session_of v.sessions w.hub).number) (w.number ≡ (session_of v.sessions w.hub).number) ((session_of v.sessions w.hub).number < w.number) → WroteIfCarried w.hub w.number (by_number v w came o)
   numbered w came Less m = tt
   numbered w came Equal m = tt
@@ -53,10 +54,9 @@ module _ {K C : Type 0} (applies : K → C → Result (Applied K) Denial) (v : O
   numbered w (Ok (Carried below a)) Greater m = noted_wrote v.sessions w a m
   numbered w (Ok (Already a)) Greater m = noted_wrote v.sessions w a m
 
+  -- and by whether the hub and the number are in range
   ranged : (r : Request C) (d : Dec (Within 1 15 r.hub)) (e : Dec (Within 1 (2 ^ 40) r.number)) → WroteIfCarried r.hub r.number (writing applies v r.command (writer_in r.hub r.number d e))
-  ranged r (yes h) (yes n) =
-      let w : Writer = record { hub = r.hub; number = r.number; hub_from = h.0; hub_within = h.1; number_from = n.0; number_within = n.1 } in
-      numbered w (applies v.below r.command) (nat_cmp w.number (session_of v.sessions w.hub).number) (ranks r.number (session_of v.sessions r.hub).number)
+  ranged r (yes h) (yes n) = numbered (record { hub = r.hub; number = r.number; hub_from = h.0; hub_within = h.1; number_from = n.0; number_within = n.1 }) _ _ (ranks r.number (session_of v.sessions r.hub).number)
   ranged r (yes h) (no n) = tt
   ranged r (no h) e = tt
 

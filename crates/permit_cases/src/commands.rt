@@ -4,30 +4,28 @@ use std::test::*;
 
 // The command is carried: the value becomes the new one, and this is the answer.
 pub fn carried<K: Kind>(value: &mut K, command: &K::Command) -> Result<u32, Fail> {
-    match value.apply(command) {
+    match value.apply(command)? {
         Applied::Carried(next, answer) => {
             *value = next;
             Ok(answer)
         }
         Applied::Already(_) => Err(Fail::new("carried already")),
-        Applied::Denied(_) => Err(Fail::new("denied")),
     }
 }
 
 // The command was carried already, with this answer.
 pub fn already<K: Kind>(value: &K, command: &K::Command) -> Result<u32, Fail> {
-    match value.apply(command) {
+    match value.apply(command)? {
         Applied::Already(answer) => Ok(answer),
         Applied::Carried(_, _) => Err(Fail::new("carried")),
-        Applied::Denied(_) => Err(Fail::new("denied")),
     }
 }
 
 // The command is denied, with this number.
 pub fn denied<K: Kind>(value: &K, command: &K::Command) -> Result<u8, Fail> {
     match value.apply(command) {
-        Applied::Denied(denial) => Ok(denial.number()),
-        Applied::Carried(_, _) => Err(Fail::new("carried")),
-        Applied::Already(_) => Err(Fail::new("carried already")),
+        Err(denial) => Ok(u8::from(denial)),
+        Ok(Applied::Carried(_, _)) => Err(Fail::new("carried")),
+        Ok(Applied::Already(_)) => Err(Fail::new("carried already")),
     }
 }

@@ -1,8 +1,9 @@
 -- What a worked case is: what was done before, what is asked, and what comes of it by the rules.
-use Rattle.std.specs.Prelude.{◌≡◌, ℕ, true, List, [], ◌∷◌, replicate}
+use Rattle.std.specs.Prelude.{◌≡◌, ℕ, true, List, [], ◌∷◌, Ok, Err, Result, replicate}
 use Rattle.std.proofs.Common.{arith}
 use Rattle.protocol.specs.declared.kind.Applied.{Applied}
-use Rattle.protocol.specs.declared.kind.Applied.TheVariants.{Carried, Already, Denied}
+use Rattle.protocol.specs.declared.kind.Applied.TheVariants.{Carried, Already}
+use Rattle.protocol.specs.declared.kind.Denial.{Denial}
 use Rattle.protocol.specs.declared.message.KeeperId.{KeeperId}
 use Rattle.protocol.specs.declared.message.Message.{Message}
 use Rattle.protocol.specs.declared.record.Record.{Record}
@@ -15,8 +16,9 @@ use Rattle.kinds.specs.Meters.{zero_meter}
 use Rattle.kinds.specs.Pools.{new_pool, pool_applies}
 use Rattle.once.specs.declared.layer.Request.{Request}
 use Rattle.once.specs.Layers.{new_layer, once_applies}
+use Rattle.keeper.specs.declared.refusal.KeeperRefusal.{KeeperRefusal}
 use Rattle.keeper.specs.declared.step.Step.{Step}
-use Rattle.keeper.specs.declared.step.Step.TheVariants.{Refused, Answered, Stored}
+use Rattle.keeper.specs.declared.step.Step.TheVariants.{Answered, Stored}
 use Rattle.keeper.specs.Keepers.{receiving, records_after}
 use Rattle.keeper.specs.Refusals.{keeper_reason}
 use Rattle.fields.specs.Forms.{Item, letter as letter_item}
@@ -45,18 +47,18 @@ pub data Case : Type 0 where
   -- messages that keeper 0 of a group with four meters received, and one more, with its fields
   of_keeper : List (Message Meter) → Message Meter → List Item → Outcome → Case
 
-abbrev outcome_of : {V : Type 0} → Applied V → Outcome
-outcome_of (Carried v a) = carried a
-outcome_of (Already a) = already a
-outcome_of (Denied d) = denied (denial_number d)
+abbrev outcome_of : {V : Type 0} → Result (Applied V) Denial → Outcome
+outcome_of (Ok (Carried v a)) = carried a
+outcome_of (Ok (Already a)) = already a
+outcome_of (Err d) = denied (denial_number d)
 
-abbrev value_after : {V : Type 0} → V → Applied V → V
-value_after v (Carried w a) = w
-value_after v (Already a) = v
-value_after v (Denied d) = v
+abbrev value_after : {V : Type 0} → V → Result (Applied V) Denial → V
+value_after v (Ok (Carried w a)) = w
+value_after v (Ok (Already a)) = v
+value_after v (Err d) = v
 
 -- the value after some commands, the first of them first
-abbrev pub after : {V C : Type 0} → (V → C → Applied V) → V → List C → V
+abbrev pub after : {V C : Type 0} → (V → C → Result (Applied V) Denial) → V → List C → V
 after applies v [] = v
 after applies v (c ∷ cs) = after applies (value_after v (applies v c)) cs
 
@@ -75,10 +77,10 @@ abbrev received : List (Record Meter) → List (Message Meter) → List (Record 
 received records [] = records
 received records (m ∷ ms) = received (records_after true records m.head.register (receiving keeper_0 records m)) ms
 
-abbrev reply_to : Step Meter → Outcome
-reply_to (Refused e) = refused (number_of (keeper_reason e))
-reply_to (Answered m) = replied (fields_of m)
-reply_to (Stored new m) = replied (fields_of m)
+abbrev reply_to : Result (Step Meter) KeeperRefusal → Outcome
+reply_to (Ok (Answered m)) = replied (fields_of m)
+reply_to (Ok (Stored new m)) = replied (fields_of m)
+reply_to (Err e) = refused (number_of (keeper_reason e))
 
 -- the rules give the outcome of a case
 abbrev pub Gives : Case → Type 0
