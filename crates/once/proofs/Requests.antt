@@ -6,13 +6,13 @@ use Rattle.std.specs.Ordering.{MatchOrdering}
 use Rattle.protocol.specs.declared.kind.Applied.{Applied}
 use Rattle.protocol.specs.declared.kind.Applied.TheVariants.{Carried, Already}
 use Rattle.protocol.specs.declared.kind.Denial.{Denial}
-use Rattle.protocol.specs.Ranges.{Within, within?}
+use Rattle.protocol.specs.Ranges.{Within, both, within?, made}
 use Rattle.once.specs.declared.layer.Once.{Once}
 use Rattle.once.specs.declared.layer.Request.{Request}
 use Rattle.once.specs.declared.layer.Session.{Session}
 use Rattle.once.specs.declared.layer.Sessions.{Sessions}
 use Rattle.once.specs.declared.layer.Writer.{Writer}
-use Rattle.once.specs.Layers.{no_session, writer_in, writer_of, session_of, noted, writing, by_number, once_applies}
+use Rattle.once.specs.Layers.{no_session, writer_from, writer_of, session_of, noted, writing, by_number, once_applies}
 
 -- the request's own entry is new, and greater than the old one; the others stay
 pub record Wrote (before after : Sessions) (hub number answer : ℕ) : Type 0 where
@@ -55,11 +55,10 @@ module _ {K C : Type 0} (applies : K → C → Result (Applied K) Denial) (v : O
   numbered w (Ok (Already a)) Greater m = noted_wrote v.sessions w a m
 
   -- and by whether the hub and the number are in range
-  ranged : (r : Request C) (d : Dec (Within 1 15 r.hub)) (e : Dec (Within 1 (2 ^ 40) r.number)) → WroteIfCarried r.hub r.number (writing applies v r.command (writer_in r.hub r.number d e))
-  ranged r (yes h) (yes n) = numbered (record { hub = r.hub; number = r.number; hub_from = h.0; hub_within = h.1; number_from = n.0; number_within = n.1 }) _ _ (ranks r.number (session_of v.sessions r.hub).number)
-  ranged r (yes h) (no n) = tt
-  ranged r (no h) e = tt
+  ranged : (r : Request C) (d : Dec (Within 1 15 r.hub × Within 1 (2 ^ 40) r.number)) → WroteIfCarried r.hub r.number (writing applies v r.command (made (writer_from r.hub r.number) d))
+  ranged r (yes h) = numbered (writer_from r.hub r.number h) _ _ (ranks r.number (session_of v.sessions r.hub).number)
+  ranged r (no h) = tt
 
   pub wrote : (after : Once K) (answer : ℕ) (r : Request C) → once_applies applies v r ≡ Ok (Carried after answer) → Wrote v.sessions after.sessions r.hub r.number answer
   unfolding writer_of
-  wrote after answer r e = subst (WroteIfCarried r.hub r.number) e (ranged r (within? 1 15 r.hub) (within? 1 (2 ^ 40) r.number))
+  wrote after answer r e = subst (WroteIfCarried r.hub r.number) e (ranged r (both (within? 1 15 r.hub) (within? 1 (2 ^ 40) r.number)))

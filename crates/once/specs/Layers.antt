@@ -7,9 +7,10 @@ use Rattle.std.proofs.Common.{length-set, ◌∙◌, arith}
 use Rattle.protocol.specs.declared.kind.Applied.{Applied}
 use Rattle.protocol.specs.declared.kind.Applied.TheVariants.{Carried, Already}
 use Rattle.protocol.specs.declared.kind.Denial.{Denial}
-use Rattle.protocol.specs.declared.kind.Denial.TheVariants.{CommandOutOfRange, NumberBelowLast}
+use Rattle.protocol.specs.declared.kind.Denial.TheVariants.{NumberBelowLast}
 use Rattle.protocol.specs.declared.refusal.OutOfRange.{OutOfRange}
-use Rattle.protocol.specs.Ranges.{Within, within?}
+use Rattle.protocol.specs.Ranges.{Within, both, within?, made}
+use Rattle.protocol.specs.Refusals.{if_there}
 use Rattle.once.specs.declared.layer.Once.{Once}
 use Rattle.once.specs.declared.layer.Request.{Request}
 use Rattle.once.specs.declared.layer.Session.{Session}
@@ -27,14 +28,12 @@ new_sessions = record { table = replicate 15 no_session; whole = refl }
 abbrev pub new_layer : {K : Type 0} → K → Once K
 new_layer first = record { sessions = new_sessions; below = first }
 
-abbrev pub writer_in : (hub number : ℕ) → Dec (Within 1 15 hub) → Dec (Within 1 (2 ^ 40) number) → Result Writer OutOfRange
-writer_in hub number (yes h) (yes n) = Ok (record { hub = hub; number = number; hub_from = h.0; hub_within = h.1; number_from = n.0; number_within = n.1 })
-writer_in hub number (yes h) (no n) = Err (record {})
-writer_in hub number (no h) n = Err (record {})
+abbrev pub writer_from : (hub number : ℕ) → Within 1 15 hub × Within 1 (2 ^ 40) number → Writer
+writer_from hub number r = record { hub = hub; number = number; hub_from = r.0.0; hub_within = r.0.1; number_from = r.1.0; number_within = r.1.1 }
 
 -- hubs are 1 to 15, the numbers of their writes 1 to 2 ^ 40
 unfoldable pub writer_of : ℕ → ℕ → Result Writer OutOfRange
-writer_of hub number = writer_in hub number (within? 1 15 hub) (within? 1 (2 ^ 40) number)
+writer_of hub number = made (writer_from hub number) (both (within? 1 15 hub) (within? 1 (2 ^ 40) number))
 
 -- a hub's entry
 abbrev pub session_of : Sessions → ℕ → Session
@@ -64,8 +63,7 @@ by_number v w came Equal = Ok (Already (session_of v.sessions w.hub).answer)
 by_number v w came Greater = noting v w came
 
 abbrev pub writing : {K C : Type 0} → (K → C → Result (Applied K) Denial) → Once K → C → Result Writer OutOfRange → Result (Applied (Once K)) Denial
-writing applies v command (Err e) = Err CommandOutOfRange
-writing applies v command (Ok w) = by_number v w (applies v.below command) (nat_cmp w.number (session_of v.sessions w.hub).number)
+writing applies v command writer = if_there writer (λ w. by_number v w (applies v.below command) (nat_cmp w.number (session_of v.sessions w.hub).number))
 
 -- all the rules: a request out of range is denied first
 abbrev pub once_applies : {K C : Type 0} → (K → C → Result (Applied K) Denial) → Once K → Request C → Result (Applied (Once K)) Denial
