@@ -1,7 +1,8 @@
 -- A number's digits, read one by one.
-use Rattle.std.proofs.Common.{◌≡◌, ℕ, ◌+◌, ◌-◌, ◌*◌, ◌^◌, ◌<◌, ◌≤◌, min, ◌⊎◌, List, [], ◌∷◌, length, get_or, take, decimal, sym, refl, ap, ◌∙◌, subst, inr, ⊎_elim, arith, take_all, rules}
+use Rattle.std.proofs.Common.{◌≡◌, ℕ, ◌+◌, ◌-◌, ◌*◌, ◌^◌, ◌<◌, ◌≤◌, min, List, [], ◌∷◌, length, get_or, take, decimal, sym, refl, ap, ◌∙◌, subst, inr, ⊎_elim, arith, take_all, rules}
 use Rattle.std.specs.Str.Parse.{AllDigits, digits_value}
 use Rattle.std.specs.Char.{digit_value}
+use Rattle.std.specs.Int.{IsInRange, IsOutOfRange}
 use Rattle.std.proofs.lemmas.Fmt.{decimal-digits_value, decimal_is_IsNumeral, first_decimal, decimal_digit}
 use Rattle.std.proofs.lemmas.Int.Digits.{digits_value_more, digits_more}
 use Rattle.std.proofs.ByRecursion.{All-from_get_or}
@@ -10,8 +11,8 @@ use Rattle.std.proofs.lemmas.Bool.{cases_lt}
 use Rattle.fields.specs.Cuts.{Mark, Plain}
 use Rattle.fields.specs.Numerals.{StartsWell, Numeral, number}
 
-digit_of : (c : ℕ) → 48 ≤ c → c ≤ 57 → (digit_value c ≡ c - 48) × (digit_value c < 10)
-digit_of c lo hi = search rules
+digit_of : (c : ℕ) → IsInRange 48 57 c → (digit_value c ≡ c - 48) × (digit_value c < 10)
+digit_of c h = search rules
 
 -- the first i bytes are digits, which write n, or more than the cap where n is that
 pub record SoFar (f : List ℕ) (i n : ℕ) : Type 0 where
@@ -21,13 +22,13 @@ pub record SoFar (f : List ℕ) (i n : ℕ) : Type 0 where
 pub none_yet : (f : List ℕ) → SoFar f 0 0
 none_yet f = record { digits = tt; capped = refl }
 
-pub one_more : (f : List ℕ) (i n m : ℕ) → SoFar f i n → i < length f → 48 ≤ get_or f i 0 → get_or f i 0 ≤ 57 → m ≡ min (n * 10 + (get_or f i 0 - 48)) (2 ^ 50) → SoFar f (i + 1) m
-one_more f i n m s l lo hi e =
-    let d = digit_of (get_or f i 0) lo hi in
+pub one_more : (f : List ℕ) (i n m : ℕ) → SoFar f i n → i < length f → IsInRange 48 57 (get_or f i 0) → m ≡ min (n * 10 + (get_or f i 0 - 48)) (2 ^ 50) → SoFar f (i + 1) m
+one_more f i n m s l h e =
+    let d = digit_of (get_or f i 0) h in
     let v = digits_value_more 10 f i l in
     record { digits = digits_more 10 f i l s.digits d.1; capped = omega (arith, e, v, s.capped, d.0) }
 
-pub no_digit : (f : List ℕ) (i : ℕ) → i < length f → (get_or f i 0 < 48) ⊎ (57 < get_or f i 0) → Numeral f → ⊥
+pub no_digit : (f : List ℕ) (i : ℕ) → i < length f → IsOutOfRange 48 57 (get_or f i 0) → Numeral f → ⊥
 no_digit f i l o n = let d = digit_at f i n.digits l in omega (arith, d)
 
 pub all_read : (f : List ℕ) (i n : ℕ) → SoFar f i n → length f ≤ i → StartsWell f → Numeral f × (n ≡ min (number f) (2 ^ 50))
@@ -37,7 +38,7 @@ all_read f i n s l starts =
 
 -- a field of one byte that is no digit is no number
 pub no_digit_alone : (f : List ℕ) (b : ℕ) → Numeral f → f ≡ b ∷ [] → 57 < b → ⊥
-no_digit_alone f b n e o = no_digit f 0 n.starts.some (subst (λ g. (get_or g 0 0 < 48) ⊎ (57 < get_or g 0 0)) (sym e) (inr o)) n
+no_digit_alone f b n e o = no_digit f 0 n.starts.some (subst (λ g. IsOutOfRange 48 57 (get_or g 0 0)) (sym e) (inr o)) n
 
 own : IsNumeralModel (AllDigits 10) (digits_value 10)
 own = numerals_by_value (AllDigits 10) tells_digits

@@ -28,6 +28,13 @@ plain_cut line from n none =
     (λ i l. let k : i < n = omega (arith, length-take n (drop from line)) in
     λ m. none (from + i) (omega arith) (omega arith) (subst Mark (get_or-take n (drop from line) i 0 k ∙ get_or-drop from line i 0) m))
 
+-- the line has no mark up to `to` where what stands from `from` on has none so far
+pub plain_up_to : (line : List ℕ) (from to : ℕ) → to ≤ length line → ((k : ℕ) → from + k < to → Mark (get_or (take (length line - from) (drop from line)) k 0) → ⊥) → (i : ℕ) → from ≤ i → i < to → Mark (get_or line i 0) → ⊥
+plain_up_to line from to w none i lo hi m =
+    let at : from + (i - from) ≡ i = omega arith in
+    none (i - from) (omega arith)
+    (subst Mark (sym (get_or-take (length line - from) (drop from line) (i - from) 0 (omega arith) ∙ get_or-drop from line (i - from) 0 ∙ ap (λ j. get_or line j 0) at)) m)
+
 module _ (line : List ℕ) (from to : ℕ) (in_line : from < length line) (mark : Mark (get_or line from 0)) (closed : Closed line) (no_feed : get_or line from 0 ≡ 10 → ⊥) (h : FieldEnds line from to) where
   tab : get_or line from 0 ≡ 9
   tab = ⊎_elim (λ l. let e : get_or line from 0 ≡ 9 = omega (arith, mark) in e) (λ l. absurd (no_feed (let e : get_or line from 0 ≡ 10 = omega (arith, mark) in e))) (cases_lt (get_or line from 0) 10)

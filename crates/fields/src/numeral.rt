@@ -9,14 +9,12 @@ pub const CAP: u64 = 1 << 50;
 fn starts_well(field: &[u8]) -> bool
     ensures { MatchBool result (StartsWell field.now) (StartsWell field.now → ⊥) }
 {
-    match field.len() {
-        0 => false,
-        1 => true,
-        _ => field[0] != b'0',
-    }
+    !matches!(field, [] | [b'0', _, ..])
 }
 
 // The number that a field writes; none where the field is no number.
+// Not str::parse: that takes a sign and leading zeros, and fails above u64, where a line may have any
+// number of digits.
 pub(crate) fn number_of(field: &[u8]) -> Option<u64>
     ensures { MatchOption result (Numeral field.now → ⊥) (λ n. Numeral field.now × (n ≡ min (number field.now) (2 ^ 50))) }
 {
@@ -24,11 +22,11 @@ pub(crate) fn number_of(field: &[u8]) -> Option<u64>
         return None;
     }
     let mut n: u64 = 0;
-    for b in field {
-        if *b < b'0' || *b > b'9' {
+    for &b in field {
+        if !b.is_ascii_digit() {
             return None;
         }
-        n = (n * 10 + (*b - b'0') as u64).min(CAP);
+        n = (n * 10 + u64::from(b - b'0')).min(CAP);
     }
     Some(n)
 }

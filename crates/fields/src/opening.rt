@@ -13,16 +13,10 @@ use crate::token::{Part, Token};
 fn framed(line: &[u8]) -> bool
     ensures { MatchBool result (Framed line.now) (Framed line.now → ⊥) }
 {
-    let n = line.len();
-    if n == 0 || n > LONGEST {
-        return false;
+    match line.split_last() {
+        Some((b'\n', rest)) => rest.len() < LONGEST && !rest.contains(&b'\n'),
+        _ => false,
     }
-    for i in 0..n - 1 {
-        if line[i] == b'\n' {
-            return false;
-        }
-    }
-    line[n - 1] == b'\n'
 }
 
 // Where the field that begins at `from` ends: at the next tab or line feed.
@@ -33,11 +27,13 @@ pub(crate) fn field_end(line: &[u8], from: usize) -> usize
     ensures plain { (i : ℕ) → from ≤ i → i < result → Mark (slice_index line.now i) → ⊥ }
     ensures stops { result < length line.now → Mark (slice_index line.now result) }
 {
-    let mut i = from;
-    while i < line.len() && line[i] != b'\t' && line[i] != b'\n' {
-        i += 1;
+    match line[from..]
+        .iter()
+        .position(|b| matches!(*b, b'\t' | b'\n'))
+    {
+        Some(n) => from + n,
+        None => line.len(),
     }
-    i
 }
 
 // What the field is whose bytes begin at the offset `at`.
