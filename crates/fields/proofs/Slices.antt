@@ -1,15 +1,9 @@
 -- What lies between a tab and the next mark of a line.
-use Rattle.std.proofs.Common.{◌≡◌, ℕ, ◌+◌, ◌-◌, ◌<◌, ◌≤◌, List, [], ◌∷◌, ◌++◌, length, get_or, take, drop, sym, refl, ap, ◌∙◌, subst, ⊎_elim, arith, length-drop, take-append-drop, length-take, get_or-drop, get_or-take, drop-drop}
+use Rattle.std.proofs.Common.{◌≡◌, ℕ, ◌+◌, ◌-◌, ◌<◌, ◌≤◌, List, [], ◌∷◌, ◌++◌, length, get_or, take, drop, sym, ap, ◌∙◌, subst, ⊎_elim, arith, length-drop, take-append-drop, length-take, get_or-drop, get_or-take, drop-drop}
 use Rattle.std.proofs.ByRecursion.{All-from_get_or}
 use Rattle.std.proofs.lemmas.List.{drop_more, drop_all}
 use Rattle.std.proofs.lemmas.Bool.{cases_lt}
 use Rattle.fields.specs.Cuts.{Mark, Closed, Plain, Ends, Next}
-
--- a list with one element
-pub single : (f : List ℕ) → length f ≡ 1 → f ≡ get_or f 0 0 ∷ []
-single [] e = absurd (omega arith)
-single (b ∷ []) e = refl
-single (b ∷ c ∷ f) e = absurd (omega arith)
 
 -- the field behind the tab at `from` ends at `to`
 pub record FieldEnds (line : List ℕ) (from to : ℕ) : Type 0 where

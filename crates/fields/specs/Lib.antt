@@ -3,5 +3,6 @@ pub mod Cuts
 pub mod Forms
 pub mod Faults
 pub mod Tokens
+pub mod Props
 pub mod Readers
 pub mod Buffers

@@ -10,7 +10,6 @@ use Rattle.fields.specs.declared.token.Token.{Token}
 use Rattle.fields.specs.Cuts.{Mark, Framed, Next}
 use Rattle.fields.specs.Faults.{FaultIn}
 use Rattle.fields.specs.Forms.{Item, letter, written, Form, Fit}
-use Rattle.fields.specs.Tokens.{text, part_of, Says}
 
 -- the bytes of the line that a reader has not read yet
 abbrev pub rest : Reader → List ℕ
@@ -19,10 +18,9 @@ rest p = drop p.at p.line.now
 -- the reader went from p to q, past the field of the token t
 pub record Passed (p q : Reader) (t : Token) : Type 0 where
   pub same_line : q.line.now ≡ p.line.now
-  pub next : Next (rest p) (text t) (rest q)
-  pub offset : (part_of t).at ≡ p.at + 1
-  pub on : q.at ≡ p.at + 1 + length (text t)
-  pub says : Says t
+  pub next : Next (rest p) t.bytes.now (rest q)
+  pub offset : t.at ≡ p.at + 1
+  pub on : q.at ≡ p.at + 1 + length t.bytes.now
 
 -- the next field, or none at the line feed
 abbrev pub Steps : Reader → Reader → Option Token → Type 0

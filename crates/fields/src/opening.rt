@@ -2,12 +2,12 @@
 ghost use Rattle.std.specs.Prelude.{◌≡◌, ℕ, ◌<◌, ◌≤◌, length, MatchBool, slice_index};
 ghost use Rattle.fields.specs.Cuts.{Mark, Framed};
 ghost use Rattle.fields.specs.Readers.{Opening};
-ghost use Rattle.fields.specs.Tokens.{part_of, Says};
+ghost use Rattle.fields.specs.Tokens.{Says};
 
 use crate::buffer::LONGEST;
 use crate::fault::{Fault, FaultKind};
 use crate::numeral::number_of;
-use crate::token::{Part, Token};
+use crate::token::{Token, TokenKind};
 
 // At most 1,024 bytes, of which the last is the only line feed.
 fn framed(line: &[u8]) -> bool
@@ -36,18 +36,24 @@ pub(crate) fn field_end(line: &[u8], from: usize) -> usize
     }
 }
 
+// What these bytes of a field are.
+fn kind_of(bytes: &[u8]) -> TokenKind
+    ensures { Says bytes.now result }
+{
+    match (number_of(bytes), bytes) {
+        (Some(n), _) => TokenKind::Number(n),
+        (None, [letter]) => TokenKind::Letter(*letter),
+        (None, _) => TokenKind::Bad,
+    }
+}
+
 // What the field is whose bytes begin at the offset `at`.
 pub fn token_of(bytes: &[u8], at: usize) -> Token<'_>
-    ensures says { Says result }
-    ensures bytes { (part_of result).bytes.now ≡ bytes.now }
-    ensures at { (part_of result).at ≡ at }
+    ensures bytes { result.bytes.now ≡ bytes.now }
+    ensures at { result.at ≡ at }
 {
-    let part = Part { bytes, at };
-    match number_of(bytes) {
-        Some(n) => Token::Number(n, part),
-        None if bytes.len() == 1 => Token::Letter(bytes[0], part),
-        None => Token::Bad(part),
-    }
+    let kind = kind_of(bytes);
+    Token { bytes, at, kind }
 }
 
 // The end of the first field; refuses a line that is too long or not closed by its only line feed.

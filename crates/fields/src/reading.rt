@@ -8,39 +8,31 @@ ghost use Rattle.fields.specs.Tokens.{number_within, access_named};
 use crate::fault::{Fault, FaultKind};
 use crate::opening::{field_end, token_of};
 use crate::reader::Reader;
-use crate::token::Token;
+use crate::token::{Token, TokenKind};
 use protocol::making::TOP;
 use protocol::message::Access;
 
-// The number that a field holds, from `low` to `high` and never above the top.
-fn number_within(token: Token, low: u64, high: u64) -> Result<u64, FaultKind>
-    ensures { result ≡ number_within low high token.entry }
-{
-    match token {
-        Token::Number(n, _) => {
-            if low <= n && n <= high && n <= TOP {
-                Ok(n)
-            } else {
-                Err(FaultKind::Range)
-            }
-        }
-        Token::Letter(_, _) => Err(FaultKind::Form),
-        Token::Bad(_) => Err(FaultKind::Form),
-    }
-}
-
-// What a field `r` or `w` names.
-fn access_named(token: Token) -> Result<Access, FaultKind>
-    ensures { result ≡ access_named token.entry }
-{
-    match token {
-        Token::Letter(letter, _) => match letter {
-            b'r' => Ok(Access::Read),
-            b'w' => Ok(Access::Write),
+impl Token<'_> {
+    // The number that the field holds, from `low` to `high` and never above the top.
+    fn number_within(self, low: u64, high: u64) -> Result<u64, FaultKind>
+        ensures { result ≡ number_within low high self.entry.kind }
+    {
+        match self.kind {
+            TokenKind::Number(n) if low <= n && n <= high && n <= TOP => Ok(n),
+            TokenKind::Number(_) => Err(FaultKind::Range),
             _ => Err(FaultKind::Form),
-        },
-        Token::Number(_, _) => Err(FaultKind::Form),
-        Token::Bad(_) => Err(FaultKind::Form),
+        }
+    }
+
+    // What the field `r` or `w` names.
+    fn access_named(self) -> Result<Access, FaultKind>
+        ensures { result ≡ access_named self.entry.kind }
+    {
+        match self.kind {
+            TokenKind::Letter(b'r') => Ok(Access::Read),
+            TokenKind::Letter(b'w') => Ok(Access::Write),
+            _ => Err(FaultKind::Form),
+        }
     }
 }
 
@@ -69,7 +61,7 @@ impl<'a> Reader<'a> {
             let kind = FaultKind::Count;
             return Err(Fault { kind, at });
         };
-        match number_within(token, low, high) {
+        match token.number_within(low, high) {
             Ok(n) => {
                 *self = ahead;
                 Ok(n)
@@ -88,7 +80,7 @@ impl<'a> Reader<'a> {
             let kind = FaultKind::Count;
             return Err(Fault { kind, at });
         };
-        match access_named(token) {
+        match token.access_named() {
             Ok(access) => {
                 *self = ahead;
                 Ok(access)

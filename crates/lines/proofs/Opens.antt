@@ -10,7 +10,6 @@ use Rattle.fields.specs.Cuts.{Framed, Plain}
 use Rattle.fields.specs.Faults.{FaultIn}
 use Rattle.fields.specs.Forms.{Item, written, Form}
 use Rattle.fields.specs.Readers.{rest, FirstEnds, Went, FaultAt, Ending}
-use Rattle.fields.specs.Tokens.{text}
 use Rattle.fields.proofs.Joins.{then_went}
 use Rattle.fields.proofs.Parts.{ends_rest}
 use Rattle.fields.proofs.Slices.{plain_cut}
@@ -41,7 +40,7 @@ opened p f h e =
     }
 
 module _ {V : Type 0} (value : Form) (items : V → List Item) (line f : List ℕ) (p : Reader) (o : Opened line f p) where
-  pub unknown_letter : (t : Token) (e : Fault) → f ≡ text t → Naming t (Err e) → Faulty value line e
+  pub unknown_letter : (t : Token) (e : Fault) → f ≡ t.bytes.now → Naming t (Err e) → Faulty value line e
   unknown_letter t e is h = unknown f (rest p) o.split o.plain (ends_rest p) (λ k x. h.0 k (sym is ∙ x)) h.1 h.2
 
   module _ (k : MessageKind) (named : f ≡ letter k ∷ []) where

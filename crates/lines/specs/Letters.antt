@@ -5,7 +5,6 @@ use Rattle.protocol.specs.declared.message.Body.TheVariants as body
 use Rattle.fields.specs.declared.fault.Fault.{Fault}
 use Rattle.fields.specs.declared.fault.FaultKind.TheVariants as fault
 use Rattle.fields.specs.declared.token.Token.{Token}
-use Rattle.fields.specs.Tokens.{text}
 use Rattle.lines.specs.declared.letter.MessageKind.{MessageKind}
 use Rattle.lines.specs.declared.letter.MessageKind.TheVariants.{Prepare, PrepareAt, Vote, State, Voted}
 
@@ -30,5 +29,5 @@ Unknown f = (k : MessageKind) → f ≢ letter k ∷ []
 
 -- what the first field of a line names
 abbrev pub Naming : Token → Result MessageKind Fault → Type 0
-Naming t (Ok k) = text t ≡ letter k ∷ []
-Naming t (Err e) = Unknown (text t) × (e.kind ≡ fault.Letter) × (e.at ≡ 0)
+Naming t (Ok k) = t.bytes.now ≡ letter k ∷ []
+Naming t (Err e) = Unknown (t.bytes.now) × (e.kind ≡ fault.Letter) × (e.at ≡ 0)

@@ -1,10 +1,9 @@
 // The letter that a line begins with says which message it is.
 ghost use Rattle.std.specs.Prelude.{◌≡◌};
-ghost use Rattle.fields.specs.Tokens.{Says};
 ghost use Rattle.lines.specs.Letters.{letter, kind_of, Naming};
 
 use fields::fault::{Fault, FaultKind};
-use fields::token::Token;
+use fields::token::{Token, TokenKind};
 use protocol::message::Body;
 
 #[derive(Clone, Copy)]
@@ -31,11 +30,10 @@ pub(crate) fn letter_of<V>(body: &Body<V>) -> u8
 
 // The message that the first field of a line names.
 pub(crate) fn named_by(first: Token) -> Result<MessageKind, Fault>
-    requires { Says first }
     ensures { Naming first.entry result }
 {
-    match first {
-        Token::Letter(letter, _) => match letter {
+    match first.kind {
+        TokenKind::Letter(letter) => match letter {
             b'P' => Ok(MessageKind::Prepare),
             b'F' => Ok(MessageKind::PrepareAt),
             b'V' => Ok(MessageKind::Vote),
@@ -46,11 +44,11 @@ pub(crate) fn named_by(first: Token) -> Result<MessageKind, Fault>
                 at: 0,
             }),
         },
-        Token::Number(_, _) => Err(Fault {
+        TokenKind::Number(_) => Err(Fault {
             kind: FaultKind::Letter,
             at: 0,
         }),
-        Token::Bad(_) => Err(Fault {
+        TokenKind::Bad => Err(Fault {
             kind: FaultKind::Letter,
             at: 0,
         }),

@@ -6,5 +6,5 @@ returns-in_default c = none_left c.args.self.now _ _ c.in_default.ensures.0
 
 pub returns-in-Err : goal.returns-in-Err
 returns-in-Err c =
-    let h = c.in-Some.ensures in
-    wrong_at c.args.self.now _ _ _ _ h (wrong_access _ _ h.says c.in-Err.ensures)
+    let t = c.in-Some.token in
+    wrong_at c.args.self.now _ _ _ _ c.in-Some.ensures (wrong_access t.bytes.now t.kind _ t.says c.in-Err.ensures)

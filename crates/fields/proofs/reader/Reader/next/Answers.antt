@@ -8,4 +8,4 @@ returns c =
     let t = c.token_of.ensures in
     passed c.args.self.now _ c.token_of.result refl c.if-line-self-eq10.false
     (record { after = f.after; within = f.within; plain = f.plain; stops = f.stops })
-    t.bytes t.at t.says
+    t.bytes t.at
