@@ -27,6 +27,13 @@ abbrev pub Steps : Reader → Reader → Option Token → Type 0
 Steps p q None = (slice_index p.line.now p.at ≡ 10) × (q ≡ p)
 Steps p q (Some t) = Passed p q t
 
+-- a reader takes the next field for what `told` says of its token; one that is missing or wrong is not
+-- passed
+pub data Takes {X : Type 0} (told : Token → Result X FaultKind → Type 0) (p : Reader) : Reader → Result X Fault → Type 0 where
+  took : {q : Reader} {x : X} (t : Token) → Passed p q t → told t (Ok x) → Takes told p q (Ok x)
+  none_left : slice_index p.line.now p.at ≡ 10 → Takes told p p (Err (record { kind = Count; at = p.at }))
+  amiss : {k : FaultKind} (t : Token) (q : Reader) → Passed p q t → told t (Err k) → Takes told p p (Err (record { kind = k; at = p.at + 1 }))
+
 -- the reader went from p to q, past these items, which fit the form
 pub record Went (p q : Reader) (form : Form) (is : List Item) : Type 0 where
   pub same_line : q.line.now ≡ p.line.now

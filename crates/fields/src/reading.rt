@@ -2,7 +2,7 @@
 // then stands in front of it.
 ghost use Rattle.std.specs.Prelude.{◌≡◌, [], ◌∷◌};
 ghost use Rattle.fields.specs.Forms.{one, range, access as access_shape, num};
-ghost use Rattle.fields.specs.Readers.{Steps, Reading, Ending, access_items};
+ghost use Rattle.fields.specs.Readers.{Steps, Takes, Reading, Ending, access_items};
 ghost use Rattle.fields.specs.Tokens.{number_within, access_named};
 
 use crate::fault::{Fault, FaultKind};
@@ -51,42 +51,37 @@ impl<'a> Reader<'a> {
         Some(token_of(&line[from..to], from))
     }
 
+    // The next field, of which `read` says the value or what is wrong with it.
+    fn field<X, F: FnOnce(Token<'a>) -> Result<X, FaultKind>>(
+        &mut self,
+        read: F,
+    ) -> Result<X, Fault>
+        requires { F.IsAlwaysCallable read }
+        ensures { Takes (F.post read) self.old self.new result }
+    {
+        let mut ahead = *self;
+        let none = Fault {
+            kind: FaultKind::Count,
+            at: self.at,
+        };
+        let token = ahead.next().ok_or(none)?;
+        let value = read(token).map_err(|kind| Fault { kind, at: token.at })?;
+        *self = ahead;
+        Ok(value)
+    }
+
     // The next field, which has to be a number from `low` to `high`, and is never above the top.
     pub fn number(&mut self, low: u64, high: u64) -> Result<u64, Fault>
         ensures { Reading (one (range low high)) (λ n. num n ∷ []) self.old self.new result }
     {
-        let at = self.at;
-        let mut ahead = *self;
-        let Some(token) = ahead.next() else {
-            let kind = FaultKind::Count;
-            return Err(Fault { kind, at });
-        };
-        match token.number_within(low, high) {
-            Ok(n) => {
-                *self = ahead;
-                Ok(n)
-            }
-            Err(kind) => Err(Fault { kind, at: at + 1 }),
-        }
+        self.field(|token| token.number_within(low, high))
     }
 
     // The next field, which has to be `r` or `w`.
     pub fn access(&mut self) -> Result<Access, Fault>
         ensures { Reading (one access_shape) access_items self.old self.new result }
     {
-        let at = self.at;
-        let mut ahead = *self;
-        let Some(token) = ahead.next() else {
-            let kind = FaultKind::Count;
-            return Err(Fault { kind, at });
-        };
-        match token.access_named() {
-            Ok(access) => {
-                *self = ahead;
-                Ok(access)
-            }
-            Err(kind) => Err(Fault { kind, at: at + 1 }),
-        }
+        self.field(Token::access_named)
     }
 
     // The line feed has to follow the last field.

@@ -1,10 +1,11 @@
-use Rattle.fields.proofs.Parts.{none_left, wrong_access, wrong_at}
+use Rattle.std.proofs.Common.{rules}
+use Rattle.fields.specs.Forms.{letter, access}
+use Rattle.fields.specs.Readers.{access_letter}
+use Rattle.fields.proofs.Parts.{right_access, wrong_access, read_one}
 use Rattle.fields.proofs.reader.Reader.access.Goals as goal
 
-pub returns-in_default : goal.returns-in_default
-returns-in_default c = none_left c.args.self.now _ _ c.in_default.ensures.0
-
-pub returns-in-Err : goal.returns-in-Err
-returns-in-Err c =
-    let t = c.in-Some.token in
-    wrong_at c.args.self.now _ _ _ _ c.in-Some.ensures (wrong_access t.bytes.now t.kind _ t.says c.in-Err.ensures)
+pub returns : goal.returns
+returns c =
+    read_one access (λ a. letter (access_letter a)) _ _ _ _ c.field.ensures
+    (λ t a h. right_access a t.bytes.now t.kind t.says (search rules))
+    (λ t k h. wrong_access t.bytes.now t.kind k t.says (search rules))
