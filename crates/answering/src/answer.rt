@@ -29,7 +29,7 @@ fn write_reply<T: Text>(reply: &Message<T>, buffer: &mut Buffer)
     buffer.clear();
     write_line(reply, buffer);
     if buffer.count > LONGEST {
-        write_refusal(TooLong {}.reason(), buffer);
+        write_refusal(TooLong {}.into(), buffer);
     }
 }
 
@@ -42,7 +42,7 @@ pub fn answer<T: Text, S: Store<Value = T>>(
     ensures { Answered T.Text.form T.Text.items S.Store.records S.Store.opened keeper.old line.now keeper.new buffer.new }
 {
     match read::<T>(line) {
-        Err(fault) => write_refusal(fault.kind.reason(), buffer),
+        Err(fault) => write_refusal(fault.kind.into(), buffer),
         Ok(message) => match keeper.receive(&message) {
             Err(refusal) => write_refusal(refusal.reason(), buffer),
             Ok(reply) => write_reply(&reply, buffer),

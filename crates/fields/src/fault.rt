@@ -18,11 +18,11 @@ pub enum FaultKind {
     Range,
 }
 
-impl FaultKind {
-    pub fn reason(self) -> Reason
-        ensures { result ≡ fault_reason self }
-    {
-        match self {
+impl From<FaultKind> for Reason {
+    ghost from_gives = { λ kind reason. reason ≡ fault_reason kind };
+
+    fn from(kind: FaultKind) -> Reason {
+        match kind {
             FaultKind::Frame => Reason::LineFrame,
             FaultKind::Letter => Reason::UnknownLetter,
             FaultKind::Count => Reason::FieldCount,

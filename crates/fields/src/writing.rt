@@ -7,10 +7,10 @@ ghost use Rattle.fields.specs.Forms.{num, letter as letter_item};
 use crate::buffer::{Buffer, LONGEST, TooLong};
 use protocol::refusal::Reason;
 
-impl TooLong {
-    pub fn reason(self) -> Reason
-        ensures { result ≡ NoRoom }
-    {
+impl From<TooLong> for Reason {
+    ghost from_gives = { λ _ reason. reason ≡ NoRoom };
+
+    fn from(_: TooLong) -> Reason {
         Reason::NoRoom
     }
 }

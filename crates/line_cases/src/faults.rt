@@ -1,6 +1,7 @@
 // Faulty lines, each with the number of its fault and the offset where it is.
 use kinds::meter::Meter;
 use lines::line::read;
+use protocol::refusal::Reason;
 use std::process::Abort;
 use std::test::Fail;
 
@@ -51,7 +52,7 @@ pub fn refused(rt: &impl Abort, line: &[u8], number: u8, at: usize) -> Result<()
     match read::<Meter>(line) {
         Ok(_) => Err(Fail::new("a faulty line was read")),
         Err(fault) => {
-            assert_eq!(rt; fault.kind.reason().number(), number);
+            assert_eq!(rt; Reason::from(fault.kind).number(), number);
             assert_eq!(rt; fault.at, at);
             Ok(())
         }
