@@ -3,7 +3,7 @@ ghost use Rattle.protocol.specs.Refusals.{number_of};
 ghost use Rattle.lines.specs.Messages.{line_of};
 ghost use Rattle.answering.specs.Answers.{refusal_line, Filled, Replied, Answered};
 
-use fields::buffer::{Buffer, LONGEST, TooLong};
+use fields::buffer::Buffer;
 use keeper::keeper::Keeper;
 use lines::line::read;
 use lines::writing::write_line;
@@ -28,8 +28,8 @@ fn write_reply<T: Text>(reply: &Message<T>, buffer: &mut Buffer)
 {
     buffer.clear();
     write_line(reply, buffer);
-    if buffer.count > LONGEST {
-        write_refusal(TooLong {}.into(), buffer);
+    if let Err(too_long) = buffer.line() {
+        write_refusal(too_long.into(), buffer);
     }
 }
 

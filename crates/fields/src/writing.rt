@@ -1,7 +1,7 @@
 // Writes fields to a buffer, one behind another.
-ghost use Rattle.std.specs.Prelude.{◌≡◌, [], ◌∷◌, decimal};
+ghost use Rattle.std.specs.Prelude.{◌≡◌, [], ◌∷◌, decimal, ◌<◌, ◌≤◌, MatchResult};
 ghost use Rattle.protocol.specs.declared.refusal.Reason.TheVariants.{NoRoom};
-ghost use Rattle.fields.specs.Buffers.{Wrote, Put};
+ghost use Rattle.fields.specs.Buffers.{content, Wrote, Put};
 ghost use Rattle.fields.specs.Forms.{num, letter as letter_item};
 
 use crate::buffer::{Buffer, LONGEST, TooLong};
@@ -30,6 +30,23 @@ impl Buffer {
         ensures { self.new.count ≡ 0 }
     {
         self.count = 0;
+    }
+
+    // The line that was written, unless it is longer than any.
+    pub fn line(&self) -> Result<&[u8], TooLong>
+        ensures { MatchResult result (λ line. (line.now ≡ content self.now) × (self.now.count ≤ 1024)) (λ _. 1024 < self.now.count) }
+    {
+        if self.count > LONGEST {
+            return Err(TooLong {});
+        }
+        Ok(&self.bytes[..self.count])
+    }
+
+    // All that is kept of what was written.
+    pub fn kept(&self) -> &[u8]
+        ensures { result.now ≡ content self.now }
+    {
+        &self.bytes[..self.count.min(LONGEST)]
     }
 
     pub fn byte(&mut self, b: u8)

@@ -1,6 +1,6 @@
 // Lines in, lines out, through buffers.
 use answering::answer::answer;
-use fields::buffer::{Buffer, LONGEST};
+use fields::buffer::Buffer;
 use keeper::keeper::Keeper;
 use protocol::store::Store;
 use std::io;
@@ -18,11 +18,9 @@ fn answer_line<T: Text, S: Store<Value = T>, W: Write>(
     reply: &mut Buffer,
     output: &mut W,
 ) -> io::Result<()> {
-    let end = line.count.min(LONGEST);
-    answer(keeper, &line.bytes[0..end], reply);
+    answer(keeper, line.kept(), reply);
     line.clear();
-    let length = reply.count.min(LONGEST);
-    output.write_all(&reply.bytes[0..length])
+    output.write_all(reply.kept())
 }
 
 // Takes bytes that have come, and answers each line that ends among them.

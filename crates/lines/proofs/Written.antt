@@ -30,15 +30,9 @@ whole_line l p q empty w h =
     (n, w.kept ∙ ap (λ k. take 1024 (take k p.bytes ++ l)) empty ∙ take_all 1024 l (omega arith))
 
 -- the line in front of what was there
-pub stands_first : (l before copied bytes : List ℕ) (n told : ℕ) → told ≡ n → length l ≡ n → take n bytes ≡ l → n ≤ length before → n ≤ 1024 → copied ≡ take (n - 0) bytes → Stands l before (copied ++ drop (n - 0) before) told
-stands_first l before copied bytes n told right len is fits short e =
-    let z : n - 0 ≡ n = omega arith in
-    record {
-      count = right ∙ sym len;
-      fits = omega arith;
-      short = omega arith;
-      is = ap (λ k. k ++ drop (n - 0) before) (e ∙ ap (λ k. take k bytes) z ∙ is) ∙ ap (λ k. l ++ drop k before) (z ∙ sym len);
-    }
+pub stands_first : (l before copied line : List ℕ) → copied ≡ line → line ≡ l → length line ≤ length before → length l ≤ 1024 → Stands l before (copied ++ drop (length line) before) (length line)
+stands_first l before copied line same is fits short =
+    let n = ap length is in record { count = n; fits = omega arith; short = short; is = ap (λ k. k ++ drop (length line) before) (same ∙ is) ∙ ap (λ k. l ++ drop k before) n }
 
 -- the part of the buffer that holds the line of a message
 pub line_there : {V : Type 0} (items : V → List Item) (m : Message V) (before after : List ℕ) (n : ℕ) → Stands (line_of items m) before after n → LineOf items m (take (n - 0) after)

@@ -5,7 +5,7 @@ ghost use Rattle.lines.specs.Messages.{line_of};
 use crate::letter::named_by;
 use crate::reading::{read_body, read_head};
 use crate::writing::write_line;
-use fields::buffer::{Buffer, LONGEST, TooLong};
+use fields::buffer::{Buffer, TooLong};
 use fields::fault::Fault;
 use fields::opening::{first_end, token_of};
 use fields::reader::Reader;
@@ -31,10 +31,11 @@ pub fn write<T: Text>(message: &Message<T>, out: &mut [u8]) -> Result<usize, Too
 {
     let mut buffer = Buffer::new();
     write_line(message, &mut buffer);
-    let n = buffer.count;
-    if n > LONGEST || n > out.len() {
+    let line = buffer.line()?;
+    let n = line.len();
+    if n > out.len() {
         return Err(TooLong {});
     }
-    out[0..n].copy_from_slice(&buffer.bytes[0..n]);
+    out[..n].copy_from_slice(line);
     Ok(n)
 }
