@@ -2,7 +2,6 @@
 #![tactic(auto)]
 
 pub mod meter;
-pub mod piece;
 pub mod pool;
 pub mod row;
 pub mod text;

@@ -8,7 +8,6 @@ ghost use Rattle.fields.specs.Forms.{num};
 ghost use Rattle.kinds.proofs.Permits.{same_pool};
 ghost use Rattle.texts.specs.Rowed.{row_same};
 
-use crate::piece::Piece;
 use crate::row::{read_row, write_row};
 use crate::text::Text;
 use fields::buffer::Buffer;
@@ -17,7 +16,7 @@ use fields::reader::Reader;
 use kinds::pool::holders::{MOST_FLAT, PERMITS};
 use kinds::pool::{Holder, Pool};
 
-impl Piece for Holder {
+impl Text for Holder {
     ghost form = { holder_form };
 
     ghost items = { holder_items };

@@ -1,4 +1,4 @@
-// Values that travel in lines.
+// Values that travel in lines, whole or as parts of others.
 ghost use Rattle.std.specs.Prelude.{◌≡◌, List};
 ghost use Rattle.fields.specs.Buffers.{Put};
 ghost use Rattle.fields.specs.Forms.{Item, Form, Fit};
@@ -7,10 +7,9 @@ ghost use Rattle.fields.specs.Readers.{Reading};
 use fields::buffer::Buffer;
 use fields::fault::Fault;
 use fields::reader::Reader;
-use protocol::kind::Kind;
 
-// A kind that has a text form: each value is a row of number fields.
-pub trait Text: Kind {
+// A value that travels as some fields.
+pub trait Text: Copy {
     // What the fields have to be.
     ghost form: { Form };
 

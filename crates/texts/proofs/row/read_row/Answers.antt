@@ -14,20 +14,20 @@ loop-i-init g c = (length-replicate g.row.N c.args.blank, search (rules, went_no
 pub returns-in_err-piece : goal.returns-in_err-piece
 returns-in_err-piece g c = record {
   is_whole = IfOk-from_err c.from_residual.result _ c.from_residual.ensures.0;
-  reads = exit (times g.row.N g.P.Piece.form) (flat_map g.P.Piece.items) _ _ c.from_residual.result _ c.from_residual.ensures.1
-      (went_amiss g.P.Piece.form _ _ _ c.loop-i.i g.row.N _ _ (omega arith) c.loop-i.invariant.1 c.in_err-piece.ensures);
+  reads = exit (times g.row.N g.P.Text.form) (flat_map g.P.Text.items) _ _ c.from_residual.result _ c.from_residual.ensures.1
+      (went_amiss g.P.Text.form _ _ _ c.loop-i.i g.row.N _ _ (omega arith) c.loop-i.invariant.1 c.in_err-piece.ensures);
 }
 
 pub loop-i-preserved : goal.loop-i-preserved
 loop-i-preserved g c =
     let whole = c.loop-i.invariant.0 in (
       length-set c.loop-i.row _ c.in_ok-piece.piece ∙ whole,
-      subst (Went c.args.reader.now c.read.new.reader (times (c.loop-i.i + 1) g.P.Piece.form)) (joined_set g.P.Piece.items c.loop-i.row c.loop-i.i _ c.in_ok-piece.piece (omega arith) (omega arith))
-          (went_more g.P.Piece.form _ _ _ c.loop-i.i _ _ c.loop-i.invariant.1 c.in_ok-piece.ensures),
+      subst (Went c.args.reader.now c.read.new.reader (times (c.loop-i.i + 1) g.P.Text.form)) (joined_set g.P.Text.items c.loop-i.row c.loop-i.i _ c.in_ok-piece.piece (omega arith) (omega arith))
+          (went_more g.P.Text.form _ _ _ c.loop-i.i _ _ c.loop-i.invariant.1 c.in_ok-piece.ensures),
     )
 
 pub returns : goal.returns
 returns g c = record {
   is_whole = c.loop-i.invariant.0;
-  reads = went_all g.P.Piece.form g.P.Piece.items _ _ c.loop-i.row c.loop-i.i g.row.N (omega arith) c.loop-i.invariant.0 c.loop-i.invariant.1;
+  reads = went_all g.P.Text.form g.P.Text.items _ _ c.loop-i.row c.loop-i.i g.row.N (omega arith) c.loop-i.invariant.0 c.loop-i.invariant.1;
 }

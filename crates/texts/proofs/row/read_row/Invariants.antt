@@ -5,4 +5,4 @@ use Rattle.texts.specs.Rows.{times}
 use Rattle.texts.proofs.row.read_row.Given as goal
 
 abbrev pub invariant-loop-i : goal.invariant-loop-i
-invariant-loop-i g l = (length l.row ≡ g.row.N) × Went l.initial.reader l.reader (times l.i g.P.Piece.form) (flat_map g.P.Piece.items (take l.i l.row))
+invariant-loop-i g l = (length l.row ≡ g.row.N) × Went l.initial.reader l.reader (times l.i g.P.Text.form) (flat_map g.P.Text.items (take l.i l.row))

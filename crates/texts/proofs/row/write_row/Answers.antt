@@ -9,9 +9,9 @@ loop-piece-init g c = put_none c.args.buffer.now
 
 pub loop-piece-preserved : goal.loop-piece-preserved
 loop-piece-preserved g c =
-    subst (λ is. Put is c.args.buffer.now c.write.new.buffer) (joined_take g.P.Piece.items c.args.row.now c.loop-piece.piece-index c.piece-item.result (omega arith) c.piece-item.is)
+    subst (λ is. Put is c.args.buffer.now c.write.new.buffer) (joined_take g.P.Text.items c.args.row.now c.loop-piece.piece-index c.piece-item.result (omega arith) c.piece-item.is)
     (put_join _ _ _ _ _ c.loop-piece.invariant c.write.ensures)
 
 pub returns : goal.returns
 returns g c =
-    subst (λ is. Put is c.args.buffer.now c.loop-piece.buffer) (joined_all g.P.Piece.items c.args.row.now c.loop-piece.piece-index (omega arith)) c.loop-piece.invariant
+    subst (λ is. Put is c.args.buffer.now c.loop-piece.buffer) (joined_all g.P.Text.items c.args.row.now c.loop-piece.piece-index (omega arith)) c.loop-piece.invariant
