@@ -11,14 +11,14 @@ use fields::fault::Fault;
 use fields::reader::Reader;
 
 // So many values. Until one is read its place holds `blank`.
+// Not array::try_from_fn: that does not say where its closure left the reader.
 pub fn read_row<P: Text, const N: usize>(blank: P, reader: &mut Reader) -> Result<[P; N], Fault>
     ensures is_whole { IfOk result (λ row. length row ≡ N) }
     ensures reads { Reading (times N P.Text.form) (flat_map P.Text.items) reader.old reader.new result }
 {
     let mut row = [blank; N];
-    for i in 0..N {
-        let piece = P::read(reader)?;
-        row[i] = piece;
+    for place in &mut row {
+        *place = P::read(reader)?;
     }
     Ok(row)
 }
