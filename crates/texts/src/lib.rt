@@ -2,6 +2,7 @@
 #![tactic(auto)]
 
 pub mod meter;
+pub mod parts;
 pub mod pool;
 pub mod row;
 pub mod text;

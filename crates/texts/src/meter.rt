@@ -1,7 +1,7 @@
 // A meter is one number, its total.
 ghost use Rattle.texts.specs.Meters.{meter_form, meter_items};
 ghost use Rattle.kinds.proofs.Totals.{same_meter};
-ghost use Rattle.std.proofs.Common.{rules};
+ghost use Rattle.texts.specs.Laws.{meter_fits};
 
 use crate::text::Text;
 use fields::buffer::Buffer;
@@ -15,7 +15,7 @@ impl Text for Meter {
 
     ghost items = { meter_items };
 
-    ghost fits = { Prim.search rules };
+    ghost fits = { meter_fits };
 
     ghost apart = { λ v w e. same_meter v w (cc) };
 

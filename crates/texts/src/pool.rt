@@ -2,7 +2,7 @@
 ghost use Rattle.fields.specs.Readers.{Reading};
 ghost use Rattle.texts.specs.Pools.{holder_form, holder_items, last_form, last_items, pool_form, pool_items};
 ghost use Rattle.texts.specs.Laws.{holder_apart, pool_fits, holder_fits};
-ghost use Rattle.std.proofs.Common.{rules, sym, ◌∙◌};
+ghost use Rattle.std.proofs.Common.{sym, ◌∙◌};
 ghost use Rattle.std.specs.Prelude.{◌≡◌, [], ◌∷◌};
 ghost use Rattle.fields.specs.Forms.{num};
 ghost use Rattle.kinds.proofs.Permits.{same_pool};
@@ -21,7 +21,7 @@ impl Text for Holder {
 
     ghost items = { holder_items };
 
-    ghost fits = { Prim.search rules };
+    ghost fits = { holder_fits };
 
     ghost apart = { holder_apart };
 

@@ -1,6 +1,6 @@
-use Rattle.fields.proofs.Joins.{then_went, then_fault, first_fault, exit}
-use Rattle.lines.specs.Messages.{head_form, head_items}
-use Rattle.lines.proofs.reading.read_head.Goals as goal
+use Rattle.fields.proofs.Joins.{then_fault, first_fault, exit}
+use Rattle.texts.specs.Parts.{head_form, head_items}
+use Rattle.texts.proofs.parts.head.HeadText.read.Goals as goal
 
 pub returns-in_err-register : goal.returns-in_err-register
 returns-in_err-register c = exit head_form head_items _ _ _ _ c.from_residual.ensures.1 (first_fault _ _ _ _ _ c.in_err-register.ensures)
@@ -14,6 +14,3 @@ pub returns-in_err-attempt : goal.returns-in_err-attempt
 returns-in_err-attempt c =
     exit head_form head_items _ _ _ _ c.from_residual-in_err-attempt.ensures.1
     (then_fault _ _ _ _ _ _ _ c.in_ok-register.ensures (then_fault _ _ _ _ _ _ _ c.in_ok-hub.ensures c.in_err-attempt.ensures))
-
-pub returns : goal.returns
-returns c = then_went _ _ _ _ _ _ _ c.in_ok-register.ensures (then_went _ _ _ _ _ _ _ c.in_ok-hub.ensures c.in_ok-attempt.ensures)

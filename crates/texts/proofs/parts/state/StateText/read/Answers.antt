@@ -1,6 +1,6 @@
 use Rattle.fields.proofs.Joins.{then_went, then_fault, first_fault, exit}
-use Rattle.lines.specs.Messages.{state_form, state_items}
-use Rattle.lines.proofs.reading.read_state.Goals as goal
+use Rattle.texts.specs.Parts.{state_form, state_items}
+use Rattle.texts.proofs.parts.state.StateText.read.Goals as goal
 
 pub returns-in_err-keeper : goal.returns-in_err-keeper
 returns-in_err-keeper g c =

@@ -1,5 +1,5 @@
 use Rattle.fields.proofs.Writes.{put_join}
-use Rattle.lines.proofs.writing.write_head.Goals as goal
+use Rattle.texts.proofs.parts.round.RoundText.write.Goals as goal
 
 pub returns : goal.returns
 returns c = put_join _ _ _ _ _ c.number.ensures (put_join _ _ _ _ _ c.number-2.ensures c.number-3.ensures)
