@@ -6,6 +6,7 @@ use Rattle.protocol.specs.declared.message.Body.TheVariants as body
 use Rattle.protocol.specs.declared.message.Message.{Message}
 use Rattle.kinds.specs.declared.meter.Meter.{Meter}
 use Rattle.fields.specs.Forms.{Item, num, letter, spelt, written, Shape, range, access, Meets, Form, end, field, Fit}
+use Rattle.texts.specs.Laws.{meter_fits}
 use Rattle.texts.specs.Meters.{meter_form, meter_items}
 use Rattle.lines.specs.Letters.{kind_of}
 use Rattle.lines.specs.Messages.{body_items, message_form, message_items, line_of}
@@ -39,8 +40,8 @@ few_fields (body.Vote n v) = omega arith
 few_fields (body.State s) = omega arith
 few_fields (body.Voted k n) = omega arith
 
-pub meter_line_short : ((v : Meter) → Fit meter_form (meter_items v)) → (m : Message Meter) → length (line_of meter_items m) ≤ 1024
-meter_line_short fits m =
-    let a = line_short meter_form meter_items fits m in
+pub meter_line_short : (m : Message Meter) → length (line_of meter_items m) ≤ 1024
+meter_line_short m =
+    let a = line_short meter_form meter_items meter_fits m in
     let b = few_fields m.body in
     omega arith

@@ -1,5 +1,5 @@
 -- From the fields behind the first one to the line.
-use Rattle.std.proofs.Common.{◌≡◌, ℕ, ◌+◌, ◌-◌, List, [], ◌∷◌, ◌++◌, length, take, drop, Ok, Err, sym, refl, ap, ◌∙◌, subst, arith, take-append-drop, length-take}
+use Rattle.std.proofs.Common.{◌≡◌, ℕ, ◌+◌, List, [], ◌∷◌, ◌++◌, length, take, drop, Ok, Err, sym, refl, ap, ◌∙◌, subst, arith, take-append-drop, length-take}
 use Rattle.std.proofs.lemmas.List.{drop_more}
 use Rattle.protocol.specs.declared.message.Body.{Body}
 use Rattle.protocol.specs.declared.message.Head.{Head}
@@ -13,10 +13,11 @@ use Rattle.fields.specs.Readers.{rest, FirstEnds, Went, FaultAt, Ending}
 use Rattle.fields.proofs.Joins.{then_went}
 use Rattle.fields.proofs.Parts.{ends_rest}
 use Rattle.fields.proofs.Slices.{plain_cut}
+use Rattle.texts.specs.Parts.{head_form, head_items}
 use Rattle.lines.specs.declared.letter.MessageKind.{MessageKind}
 use Rattle.lines.specs.Letters.{letter, kind_of, Naming}
 use Rattle.lines.specs.Lines.{LineOf, Faulty, unknown, field, extra}
-use Rattle.lines.specs.Messages.{head_form, head_items, body_form, body_items, BodyReading, message_form}
+use Rattle.lines.specs.Messages.{body_form, body_items, BodyReading, message_form}
 
 -- f is the first field of the line, and the reader p stands behind it
 pub record Opened (line f : List ℕ) (p : Reader) : Type 0 where
@@ -26,17 +27,15 @@ pub record Opened (line f : List ℕ) (p : Reader) : Type 0 where
   pub on : p.at ≡ length f
   pub plain : Plain f
 
-pub opened : (p : Reader) (f : List ℕ) → FirstEnds p.line.now p.at → f ≡ take (p.at - 0) p.line.now → Opened p.line.now f p
+pub opened : (p : Reader) (f : List ℕ) → FirstEnds p.line.now p.at → f ≡ take p.at p.line.now → Opened p.line.now f p
 opened p f h e =
     let line = p.line.now in
-    let zero_off : p.at - 0 ≡ p.at = omega arith in
-    let e' : f ≡ take p.at line = e ∙ ap (λ k. take k line) zero_off in
     record {
       framed = h.framed;
       same_line = refl;
-      split = sym (take-append-drop p.at line) ∙ ap (λ x. x ++ rest p) (sym e');
-      on = let k = ap length e' in let w = p.within in omega (arith, k, length-take p.at line);
-      plain = subst Plain (sym e') (plain_cut line 0 p.at (λ i lo hi. h.plain i (omega arith)));
+      split = sym (take-append-drop p.at line) ∙ ap (λ x. x ++ rest p) (sym e);
+      on = let w = p.within in omega (arith, ap length e, length-take p.at line);
+      plain = subst Plain (sym e) (plain_cut line 0 p.at (λ i lo hi. h.plain i (omega arith)));
     }
 
 module _ {V : Type 0} (value : Form) (items : V → List Item) (line f : List ℕ) (p : Reader) (o : Opened line f p) where

@@ -1,20 +1,18 @@
 -- Messages of one letter and the same fields are the same.
-use Rattle.std.proofs.Common.{◌≡◌, ℕ, Bool, true, false, cond, eqb, List, sym, refl, ap, ◌∙◌, subst, arith}
+use Rattle.std.proofs.Common.{◌≡◌, ℕ, cond, eqb, List, sym, refl, ap, ◌∙◌, subst}
 use Rattle.protocol.specs.declared.message.Access.{Access}
-use Rattle.protocol.specs.declared.message.Access.TheVariants.{Read, Write}
 use Rattle.protocol.specs.declared.message.Body.{Body}
 use Rattle.protocol.specs.declared.message.Body.TheVariants as body
 use Rattle.protocol.specs.declared.message.KeeperId.{KeeperId}
 use Rattle.protocol.specs.declared.message.Message.{Message}
 use Rattle.protocol.specs.declared.message.Number.{Number}
 use Rattle.protocol.specs.declared.message.State as state
-use Rattle.protocol.proofs.Same.{same_head, same_keeper, same_number, same_promise, same_round}
 use Rattle.fields.specs.Forms.{Item}
-use Rattle.fields.specs.Readers.{access_letter}
+use Rattle.texts.specs.PartLaws.{head_apart, keeper_apart, number_apart, access_apart, state_apart}
 use Rattle.lines.specs.declared.letter.MessageKind.{MessageKind}
 use Rattle.lines.specs.declared.letter.MessageKind.TheVariants.{Prepare, PrepareAt, Vote, State, Voted}
 use Rattle.lines.specs.Letters.{letter, kind_of}
-use Rattle.lines.specs.Messages.{bit, body_items, message_items}
+use Rattle.lines.specs.Messages.{body_items, message_items}
 
 -- the message of a letter
 abbrev kind_at : ℕ → MessageKind
@@ -52,38 +50,19 @@ taken_apart (body.Vote n v) = ((n, v), refl)
 taken_apart (body.State s) = (s, refl)
 taken_apart (body.Voted k n) = ((k, n), refl)
 
-access_same : (a b : Access) → access_letter a ≡ access_letter b → a ≡ b
-access_same Read Read e = refl
-access_same Read Write e = absurd (omega (arith, e))
-access_same Write Read e = absurd (omega (arith, e))
-access_same Write Write e = refl
-
-bit_same : (a b : Bool) → bit a ≡ bit b → a ≡ b
-bit_same true true e = refl
-bit_same true false e = absurd (omega (arith, e))
-bit_same false true e = absurd (omega (arith, e))
-bit_same false false e = refl
-
 module _ {V : Type 0} (items : V → List Item) (apart : (v w : V) → items v ≡ items w → v ≡ w) where
   held_same : (k : MessageKind) (x y : Held V k) → body_items items (made k x) ≡ body_items items (made k y) → made k x ≡ made k y
-  held_same Prepare a b e = let l : access_letter a ≡ access_letter b = cc in ap body.Prepare (access_same a b l)
-  held_same PrepareAt m n e = ap body.PrepareAt (same_number m n (cc))
+  held_same Prepare a b e = ap body.Prepare (access_apart a b e)
+  held_same PrepareAt m n e = ap body.PrepareAt (number_apart m n e)
   held_same Vote x y e =
-      let n = same_number x.0 y.0 (cc) in
+      let n = number_apart x.0 y.0 (cc) in
       let t : items x.1 ≡ items y.1 = cc in
       let v = apart x.1 y.1 t in
       cc
-  held_same State s t e =
-      let k = same_keeper s.keeper t.keeper (cc) in
-      let raised : bit s.promise.raised ≡ bit t.promise.raised = cc in
-      let p = same_promise s.promise t.promise (bit_same s.promise.raised t.promise.raised raised) (cc) in
-      let r = same_round s.voted t.voted (cc) (cc) (cc) in
-      let is : items s.value ≡ items t.value = cc in
-      let v = apart s.value t.value is in
-      ap body.State (λ i. record { keeper = k i; promise = p i; voted = r i; value = v i })
+  held_same State s t e = ap body.State (state_apart items apart s t e)
   held_same Voted x y e =
-      let k = same_keeper x.0 y.0 (cc) in
-      let n = same_number x.1 y.1 (cc) in
+      let k = keeper_apart x.0 y.0 (cc) in
+      let n = number_apart x.1 y.1 (cc) in
       cc
 
   body_same : (b c : Body V) → kind_of b ≡ kind_of c → body_items items b ≡ body_items items c → b ≡ c
@@ -95,7 +74,7 @@ module _ {V : Type 0} (items : V → List Item) (apart : (v w : V) → items v �
 
   pub message_same : (m n : Message V) → kind_of m.body ≡ kind_of n.body → message_items items m ≡ message_items items n → m ≡ n
   message_same m n e f =
-      let h = same_head m.head n.head (cc) (cc) (cc) in
+      let h = head_apart m.head n.head (cc) in
       let is : body_items items m.body ≡ body_items items n.body = cc in
       let b = body_same m.body n.body e is in
       λ i. record { head = h i; body = b i }

@@ -1,27 +1,23 @@
 -- A line is the line of at most one message, and of none where a fault is.
-use Rattle.std.proofs.Common.{◌≡◌, ℕ, ◌-◌, ◌^◌, ◌<◌, ◌≤◌, Bool, true, false, List, [], ◌∷◌, ◌++◌, length, get_or, IsErrAnd, Ok, Err, Result, sym, refl, ap, ◌∙◌, subst, inl, inr, arith}
+use Rattle.std.proofs.Common.{◌≡◌, ℕ, ◌-◌, ◌<◌, List, [], ◌∷◌, ◌++◌, length, get_or, IsErrAnd, Ok, Err, Result, sym, refl, ap, ◌∙◌, subst, arith}
 use Rattle.std.specs.List.{AllByRecursion}
 use Rattle.std.proofs.ByRecursion.{All-append, All-get_or, All-weaker}
 use Rattle.std.proofs.lemmas.List.{get_or_push, get_or_append_left, length_push}
-use Rattle.protocol.specs.declared.message.Access.{Access}
-use Rattle.protocol.specs.declared.message.Access.TheVariants.{Read, Write}
 use Rattle.protocol.specs.declared.message.Body.{Body}
 use Rattle.protocol.specs.declared.message.Body.TheVariants as body
-use Rattle.protocol.specs.declared.message.Head.{Head}
 use Rattle.protocol.specs.declared.message.Message.{Message}
-use Rattle.protocol.specs.declared.message.Promise.{Promise}
-use Rattle.protocol.specs.declared.round.Round.{Round}
 use Rattle.fields.specs.declared.fault.Fault.{Fault}
 use Rattle.fields.specs.Cuts.{Mark, Closed, Plain}
-use Rattle.fields.specs.Forms.{Item, num, spelt, written, InRange, access, Form, end, field, one, Fit, ◌▷◌}
-use Rattle.fields.specs.Readers.{access_items}
+use Rattle.fields.specs.Forms.{Item, spelt, written, Form, end, field, Fit}
 use Rattle.fields.proofs.Apart.{prefix, items_same, excludes}
 use Rattle.fields.proofs.Joins.{meets_plain, ends_on, fit_join}
+use Rattle.texts.specs.Parts.{head_form, head_items, keeper_form, keeper_items, number_form, number_items}
+use Rattle.texts.specs.PartLaws.{head_fits, keeper_fits, number_fits, access_fits, state_fits}
 use Rattle.lines.specs.declared.letter.MessageKind.{MessageKind}
 use Rattle.lines.specs.declared.letter.MessageKind.TheVariants.{Prepare, PrepareAt, Vote, State, Voted}
 use Rattle.lines.specs.Letters.{letter, kind_of}
 use Rattle.lines.specs.Lines.{LineOf, Faulty, frame, unknown, field as field_fault, extra, Told, Reads, OneLine}
-use Rattle.lines.specs.Messages.{head_form, head_items, round_form, round_items, promise_form, promise_items, bit, body_form, body_items, message_form, message_items, line_of}
+use Rattle.lines.specs.Messages.{body_form, body_items, message_form, message_items, line_of}
 use Rattle.lines.proofs.Same.{letter_same, message_same}
 
 -- the line feed is the last byte and the only one, where the bytes before it have none
@@ -56,43 +52,13 @@ letter_high Voted = omega arith
 plain_letter : (k : MessageKind) → Plain (letter k ∷ [])
 plain_letter k = (λ m. omega (arith, m, letter_high k), tt)
 
--- the fields of a message are what they have to be: its types carry the ranges
-in_range : (lo hi n : ℕ) → lo ≤ n → n ≤ hi → hi ≤ 2 ^ 40 → InRange lo hi n
-in_range lo hi n a b c = (a, b, omega arith)
-
-head_fits : (h : Head) → Fit head_form (head_items h)
-head_fits h = (
-  in_range 0 63 h.register (omega arith) h.register_within (omega arith),
-  (in_range 1 15 h.hub h.hub_from h.hub_within (omega arith), (in_range 1 (2 ^ 40) h.attempt h.attempt_from h.attempt_within (omega arith), tt)),
-)
-
-round_fits : (r : Round) → Fit round_form (round_items r)
-round_fits r = (
-  in_range 0 (2 ^ 40) r.n (omega arith) r.n_within (omega arith),
-  (in_range 0 15 r.hub (omega arith) r.hub_within (omega arith), (in_range 0 (2 ^ 40) r.attempt (omega arith) r.attempt_within (omega arith), tt)),
-)
-
-promise_fits : (p : Promise) → Fit promise_form (promise_items p)
-promise_fits p = go p.raised p.from_one_where_raised
-  where
-    go : (b : Bool) → (b ≡ true → 1 ≤ p.n) → Fit promise_form (num (bit b) ∷ num p.n ∷ [])
-    go true h = (in_range 0 1 1 (omega arith) (omega arith) (omega arith), (in_range 1 (2 ^ 40) p.n (h refl) p.within (omega arith), tt))
-    go false h = (in_range 0 1 0 (omega arith) (omega arith) (omega arith), (in_range 0 (2 ^ 40) p.n (omega arith) p.within (omega arith), tt))
-
-access_fits : (a : Access) → Fit (one access) (access_items a)
-access_fits Read = (inl refl, tt)
-access_fits Write = (inr refl, tt)
-
 module _ {V : Type 0} (value : Form) (items : V → List Item) (fits : (v : V) → Fit value (items v)) where
   body_fits : (b : Body V) → Fit (body_form value (kind_of b)) (body_items items b)
   body_fits (body.Prepare a) = access_fits a
-  body_fits (body.PrepareAt n) = (in_range 1 (2 ^ 40) n.n n.from n.within (omega arith), tt)
-  body_fits (body.Vote n v) = (in_range 1 (2 ^ 40) n.n n.from n.within (omega arith), fits v)
-  body_fits (body.State s) = (
-    in_range 0 6 s.keeper.id (omega arith) s.keeper.within (omega arith),
-    fit_join promise_form (λ l. round_form ▷ (λ r. value)) (promise_items s.promise) (round_items s.voted ++ items s.value) (promise_fits s.promise) (fit_join round_form (λ r. value) (round_items s.voted) (items s.value) (round_fits s.voted) (fits s.value)),
-  )
-  body_fits (body.Voted k n) = (in_range 0 6 k.id (omega arith) k.within (omega arith), (in_range 1 (2 ^ 40) n.n n.from n.within (omega arith), tt))
+  body_fits (body.PrepareAt n) = number_fits n
+  body_fits (body.Vote n v) = fit_join number_form (λ l. value) (number_items n) (items v) (number_fits n) (fits v)
+  body_fits (body.State s) = state_fits value items fits s
+  body_fits (body.Voted k n) = fit_join keeper_form (λ l. number_form) (keeper_items k) (number_items n) (keeper_fits k) (number_fits n)
 
   pub message_fits : (m : Message V) → Fit (message_form value (kind_of m.body)) (message_items items m)
   message_fits m = fit_join head_form (λ h. body_form value (kind_of m.body)) (head_items m.head) (body_items items m.body) (head_fits m.head) (body_fits m.body)

@@ -1,19 +1,15 @@
 -- Writing a message.
-use Rattle.std.proofs.Common.{◌≡◌, ℕ, ◌-◌, ◌≤◌, List, [], ◌∷◌, ◌++◌, length, take, drop, sym, ap, ◌∙◌, subst, arith, take_all}
+use Rattle.std.proofs.Common.{◌≡◌, ℕ, ◌≤◌, List, [], ◌∷◌, ◌++◌, length, take, drop, sym, ap, ◌∙◌, subst, arith, take_all}
 use lib.Seq.{take-append_seam}
-use Rattle.protocol.specs.declared.message.Body.{Body}
 use Rattle.protocol.specs.declared.message.Message.{Message}
 use Rattle.fields.specs.declared.buffer.Buffer.{Buffer}
 use Rattle.fields.specs.Buffers.{content, Wrote, Put}
 use Rattle.fields.specs.Forms.{Item, written}
 use Rattle.fields.proofs.Writes.{wrote_join, put_join}
+use Rattle.texts.specs.Parts.{head_items}
 use Rattle.lines.specs.Letters.{letter, kind_of}
 use Rattle.lines.specs.Lines.{LineOf, Stands}
-use Rattle.lines.specs.Messages.{body_items, head_items, message_items, line_of}
-
--- a body by its case
-pub put_as : {V : Type 0} (items : V → List Item) (b c : Body V) (p q : Buffer) → b ≡ c → Put (body_items items c) p q → Put (body_items items b) p q
-put_as items b c p q e h = subst (λ x. Put (body_items items x) p q) (sym e) h
+use Rattle.lines.specs.Messages.{body_items, message_items, line_of}
 
 -- the letter, the fields and the line feed
 pub wrote_line : {V : Type 0} (items : V → List Item) (m : Message V) (b : ℕ) (p q r s z : Buffer) → b ≡ letter (kind_of m.body) → Wrote (b ∷ []) p q → Put (head_items m.head) q r → Put (body_items items m.body) r s → Wrote (10 ∷ []) s z → Wrote (line_of items m) p z
@@ -35,9 +31,8 @@ stands_first l before copied line same is fits short =
     let n = ap length is in record { count = n; fits = omega arith; short = short; is = ap (λ k. k ++ drop (length line) before) (same ∙ is) ∙ ap (λ k. l ++ drop k before) n }
 
 -- the part of the buffer that holds the line of a message
-pub line_there : {V : Type 0} (items : V → List Item) (m : Message V) (before after : List ℕ) (n : ℕ) → Stands (line_of items m) before after n → LineOf items m (take (n - 0) after)
+pub line_there : {V : Type 0} (items : V → List Item) (m : Message V) (before after : List ℕ) (n : ℕ) → Stands (line_of items m) before after n → LineOf items m (take n after)
 line_there items m before after n s =
     let l = line_of items m in
-    let e : n - 0 ≡ length l = omega (arith, s.count) in
-    let is : take (n - 0) after ≡ l = ap (λ k. take k after) e ∙ ap (take (length l)) s.is ∙ take-append_seam l (drop (length l) before) in
-    record { is = is; short = let k = ap length is in let h = s.short in omega arith }
+    let is : take n after ≡ l = ap (λ k. take k after) s.count ∙ ap (take (length l)) s.is ∙ take-append_seam l (drop (length l) before) in
+    record { is = is; short = let h = s.short in omega (arith, ap length is) }

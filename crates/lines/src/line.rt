@@ -3,13 +3,13 @@ ghost use Rattle.lines.specs.Lines.{Reads, Writing};
 ghost use Rattle.lines.specs.Messages.{line_of};
 
 use crate::letter::named_by;
-use crate::reading::{read_body, read_head};
+use crate::reading::read_body;
 use crate::writing::write_line;
 use fields::buffer::{Buffer, TooLong};
 use fields::fault::Fault;
 use fields::opening::{first_end, token_of};
 use fields::reader::Reader;
-use protocol::message::Message;
+use protocol::message::{Head, Message};
 use texts::text::Text;
 
 // The message whose line this is, or a fault that the line has. Of several faults it may name any one.
@@ -17,9 +17,9 @@ pub fn read<T: Text>(line: &[u8]) -> Result<Message<T>, Fault>
     ensures { Reads T.Text.form T.Text.items line.now result }
 {
     let end = first_end(line)?;
-    let kind = named_by(token_of(&line[0..end], 0))?;
+    let kind = named_by(token_of(&line[..end], 0))?;
     let mut reader = Reader { line, at: end };
-    let head = read_head(&mut reader)?;
+    let head = Head::read(&mut reader)?;
     let body = read_body::<T>(kind, &mut reader)?;
     reader.end()?;
     Ok(Message { head, body })
