@@ -6,6 +6,7 @@ use Rattle.fields.specs.declared.fault.Fault.{Fault}
 use Rattle.fields.specs.declared.fault.FaultKind.TheVariants as fault
 use Rattle.fields.specs.declared.token.Token.{Token}
 use Rattle.lines.specs.declared.letter.MessageKind.{MessageKind}
+use Rattle.lines.specs.declared.letter.UnknownLetter.{UnknownLetter}
 use Rattle.lines.specs.declared.letter.MessageKind.TheVariants.{Prepare, PrepareAt, Vote, State, Voted}
 
 -- P, F, V, A and D
@@ -22,6 +23,11 @@ kind_of (body.PrepareAt n) = PrepareAt
 kind_of (body.Vote n v) = Vote
 kind_of (body.State s) = State
 kind_of (body.Voted k n) = Voted
+
+-- the kind whose letter this byte is, or it is the letter of none
+abbrev pub Lettered : ℕ → Result MessageKind UnknownLetter → Type 0
+Lettered b (Ok k) = b ≡ letter k
+Lettered b (Err e) = (k : MessageKind) → b ≢ letter k
 
 -- a first field that is none of the five letters
 abbrev pub Unknown : List ℕ → Type 0

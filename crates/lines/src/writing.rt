@@ -2,7 +2,7 @@
 ghost use Rattle.fields.specs.Buffers.{Wrote, Put};
 ghost use Rattle.lines.specs.Messages.{body_items, line_of};
 
-use crate::letter::letter_of;
+use crate::letter::MessageKind;
 use fields::buffer::Buffer;
 use protocol::message::{Body, Message};
 use texts::text::Text;
@@ -29,7 +29,8 @@ pub(crate) fn write_body<T: Text>(body: &Body<T>, buffer: &mut Buffer)
 pub fn write_line<T: Text>(message: &Message<T>, buffer: &mut Buffer)
     ensures { Wrote (line_of T.Text.items message.now) buffer.old buffer.new }
 {
-    buffer.byte(letter_of(&message.body));
+    let kind = MessageKind::of(&message.body);
+    buffer.byte(kind.into());
     message.head.write(buffer);
     write_body(&message.body, buffer);
     buffer.byte(b'\n');
