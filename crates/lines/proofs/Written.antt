@@ -1,6 +1,5 @@
 -- Writing a message.
 use Rattle.std.proofs.Common.{◌≡◌, ℕ, ◌≤◌, List, [], ◌∷◌, ◌++◌, length, take, drop, sym, ap, ◌∙◌, subst, arith, take_all}
-use lib.Seq.{take-append_seam}
 use Rattle.protocol.specs.declared.message.Message.{Message}
 use Rattle.fields.specs.declared.buffer.Buffer.{Buffer}
 use Rattle.fields.specs.Buffers.{content, Wrote, Put}
@@ -8,7 +7,7 @@ use Rattle.fields.specs.Forms.{Item, written}
 use Rattle.fields.proofs.Writes.{wrote_join, put_join}
 use Rattle.texts.specs.Parts.{head_items}
 use Rattle.lines.specs.Letters.{letter, kind_of}
-use Rattle.lines.specs.Lines.{LineOf, Stands}
+use Rattle.lines.specs.Lines.{Stands}
 use Rattle.lines.specs.Messages.{body_items, message_items, line_of}
 
 -- the letter, the fields and the line feed
@@ -29,10 +28,3 @@ whole_line l p q empty w h =
 pub stands_first : (l before copied line : List ℕ) → copied ≡ line → line ≡ l → length line ≤ length before → length l ≤ 1024 → Stands l before (copied ++ drop (length line) before) (length line)
 stands_first l before copied line same is fits short =
     let n = ap length is in record { count = n; fits = omega arith; short = short; is = ap (λ k. k ++ drop (length line) before) (same ∙ is) ∙ ap (λ k. l ++ drop k before) n }
-
--- the part of the buffer that holds the line of a message
-pub line_there : {V : Type 0} (items : V → List Item) (m : Message V) (before after : List ℕ) (n : ℕ) → Stands (line_of items m) before after n → LineOf items m (take n after)
-line_there items m before after n s =
-    let l = line_of items m in
-    let is : take n after ≡ l = ap (λ k. take k after) s.count ∙ ap (take (length l)) s.is ∙ take-append_seam l (drop (length l) before) in
-    record { is = is; short = let h = s.short in omega (arith, ap length is) }

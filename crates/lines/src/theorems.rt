@@ -31,8 +31,5 @@ pub fn read_back<T: Text>(message: &Message<T>, out: &mut [u8]) -> Result<Messag
     ensures { ReadBack T.Text.items message.now out.old out.new result }
 {
     let n = write(message, out)?;
-    match read(&out[..n]) {
-        Ok(found) => Ok(found),
-        Err(_) => unreachable(),
-    }
+    Ok(read(&out[..n]).unwrap())
 }
