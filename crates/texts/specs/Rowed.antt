@@ -1,6 +1,6 @@
 -- Pieces in a row: their forms, their faults, and that a row has one reading.
-use Rattle.std.specs.Prelude.{◌≡◌, ℕ, zero, suc, ◌+◌, ◌-◌, ◌<◌, ◌≤◌, List, [], ◌∷◌, ◌++◌, length, take, slice_index_or, slice_set, refl}
-use Rattle.std.proofs.Common.{length-take, append-nil, append_assoc, sym, ap, subst, ◌∙◌, add-zero, zero-add, arith}
+use Rattle.std.specs.Prelude.{◌≡◌, ℕ, zero, suc, ◌+◌, ◌-◌, ◌<◌, List, [], ◌∷◌, ◌++◌, length, take, slice_index_or, slice_set, refl}
+use Rattle.std.proofs.Common.{length-take, append-nil, append_assoc, sym, ap, subst, ◌∙◌, zero-add, arith}
 use Rattle.std.proofs.Math.Path.{fun_ext}
 use Rattle.std.specs.List.{flat_map}
 use Rattle.std.proofs.lemmas.List.{take_all, take_more, take_more_set, flat_map_more}
@@ -31,9 +31,6 @@ module _ (form : Form) where
 
   times_one : times 1 form ≡ form
   times_one = nothing_after form
-
-  pub went_none : (p : Reader) → Went p p (times 0 form) []
-  went_none p = record { same_line = refl; there = refl; on = sym (add-zero p.at); fit = tt }
 
   -- one piece more
   pub went_more : (p q r : Reader) (n : ℕ) (is js : List Item) → Went p q (times n form) is → Went q r form js → Went p r (times (n + 1) form) (is ++ js)
@@ -87,11 +84,8 @@ module _ {X : Type 0} (form : Form) (items : X → List Item) (fits : (x : X) �
 pub joined_take : {X : Type 0} (items : X → List Item) (xs : List X) (i : ℕ) (x : X) → i < length xs → x ≡ slice_index_or xs i x → flat_map items (take i xs) ++ items x ≡ flat_map items (take (i + 1) xs)
 joined_take items xs i x l e = flat_map_more items [] (take i xs) x ∙ ap (flat_map items) (ap (λ y. take i xs ++ (y ∷ [])) e ∙ sym (take_more xs i x l))
 
-pub joined_set : {X : Type 0} (items : X → List Item) (xs : List X) (i place : ℕ) (x : X) → i < length xs → place ≡ i → flat_map items (take i xs) ++ items x ≡ flat_map items (take (i + 1) (slice_set xs place x))
-joined_set items xs i place x l e = flat_map_more items [] (take i xs) x ∙ ap (flat_map items) (sym (ap (λ k. take (i + 1) (slice_set xs k x)) e ∙ take_more_set xs i x l))
-
-pub joined_all : {X : Type 0} (items : X → List Item) (xs : List X) (i : ℕ) → length xs ≤ i → flat_map items (take i xs) ≡ flat_map items xs
-joined_all items xs i l = ap (flat_map items) (take_all i xs l)
+pub joined_set : {X : Type 0} (items : X → List Item) (xs : List X) (i : ℕ) (x : X) → i < length xs → flat_map items (take i xs) ++ items x ≡ flat_map items (take (i + 1) (slice_set xs i x))
+joined_set items xs i x l = flat_map_more items [] (take i xs) x ∙ ap (flat_map items) (sym (take_more_set xs i x l))
 
 -- nothing is written
 pub put_none : (b : Buffer) → Put [] b b
@@ -99,8 +93,3 @@ put_none b =
     let within = b.within in
     let whole = b.whole in
     record { wrote = record { counted = omega arith; kept = sym (ap (take 1024) (append-nil (content b)) ∙ take_all 1024 (content b) (omega (arith, length-take b.count b.bytes))) } }
-
--- all pieces are read
-pub went_all : {X : Type 0} (form : Form) (items : X → List Item) (p q : Reader) (row : List X) (i n : ℕ) → i ≡ n → length row ≡ n → Went p q (times i form) (flat_map items (take i row)) → Went p q (times n form) (flat_map items row)
-went_all form items p q row i n e l g =
-    subst (λ k. Went p q (times k form) (flat_map items row)) e (subst (Went p q (times i form)) (joined_all items row i (omega arith)) g)

@@ -1,14 +1,10 @@
 use Rattle.std.proofs.Common.{◌+◌, subst, arith, rules}
-use Rattle.std.proofs.lemmas.List.{length-replicate}
 use Rattle.fields.specs.Readers.{Went}
 use Rattle.fields.proofs.Joins.{exit}
 use Rattle.std.specs.List.{flat_map}
 use Rattle.texts.specs.Rows.{times}
-use Rattle.texts.specs.Rowed.{went_none, went_more, went_amiss, went_all, joined_set}
+use Rattle.texts.specs.Rowed.{went_more, went_amiss, joined_set}
 use Rattle.texts.proofs.row.read_row.Goals as goal
-
-pub loop-place-init : goal.loop-place-init
-loop-place-init g c = record { whole = length-replicate g.row.N c.args.blank; so_far = search (rules, went_none) }
 
 pub returns-in_err-place-clause-reads : goal.returns-in_err-place-clause-reads
 returns-in_err-place-clause-reads g c =
@@ -18,10 +14,6 @@ returns-in_err-place-clause-reads g c =
 pub loop-place-preserved : goal.loop-place-preserved
 loop-place-preserved g c = record {
   whole = search rules;
-  so_far = subst (Went c.args.reader.now c.read.new.reader (times (c.loop-place.place-index + 1) g.P.Text.form)) (joined_set g.P.Text.items c.loop-place.place-items c.loop-place.place-index _ c.in_ok-place.field-0 (omega arith) (omega arith))
+  so_far = subst (Went c.args.reader.now c.read.new.reader (times (c.loop-place.place-index + 1) g.P.Text.form)) (joined_set g.P.Text.items c.loop-place.place-items c.loop-place.place-index c.in_ok-place.field-0 (omega arith))
       (went_more g.P.Text.form _ _ _ c.loop-place.place-index _ _ c.loop-place.invariant.so_far c.in_ok-place.ensures);
 }
-
-pub returns-clause-reads : goal.returns-clause-reads
-returns-clause-reads g c =
-    went_all g.P.Text.form g.P.Text.items _ _ c.loop-place.place-items c.loop-place.place-index g.row.N (omega arith) c.loop-place.invariant.whole c.loop-place.invariant.so_far

@@ -1,7 +1,7 @@
 use Rattle.std.proofs.Common.{subst, arith}
 use Rattle.fields.specs.Buffers.{Put}
 use Rattle.fields.proofs.Writes.{put_join}
-use Rattle.texts.specs.Rowed.{put_none, joined_take, joined_all}
+use Rattle.texts.specs.Rowed.{put_none, joined_take}
 use Rattle.texts.proofs.row.write_row.Goals as goal
 
 pub loop-piece-init : goal.loop-piece-init
@@ -11,7 +11,3 @@ pub loop-piece-preserved : goal.loop-piece-preserved
 loop-piece-preserved g c =
     subst (λ is. Put is c.args.buffer.now c.write.new.buffer) (joined_take g.P.Text.items c.args.row.now c.loop-piece.piece-index c.piece-item.result (omega arith) c.piece-item.is)
     (put_join _ _ _ _ _ c.loop-piece.invariant c.write.ensures)
-
-pub returns : goal.returns
-returns g c =
-    subst (λ is. Put is c.args.buffer.now c.loop-piece.buffer) (joined_all g.P.Text.items c.args.row.now c.loop-piece.piece-index (omega arith)) c.loop-piece.invariant
