@@ -1,10 +1,7 @@
-// A pool is the numbers of the 32 holders, and of the permit granted last.
-ghost use Rattle.fields.specs.Readers.{Reading};
+// A pool is the numbers of the 32 holders, 0 for nobody, and of the permit granted last, 0 for none.
 ghost use Rattle.texts.specs.Pools.{holder_form, holder_items, last_form, last_items, pool_form, pool_items};
-ghost use Rattle.texts.specs.Laws.{holder_apart, pool_fits, holder_fits};
+ghost use Rattle.texts.specs.Laws.{holder_apart, holder_fits, last_apart, last_fits, pool_fits};
 ghost use Rattle.std.proofs.Common.{sym, ◌∙◌};
-ghost use Rattle.std.specs.Prelude.{◌≡◌, [], ◌∷◌};
-ghost use Rattle.fields.specs.Forms.{num};
 ghost use Rattle.kinds.proofs.Permits.{same_pool};
 ghost use Rattle.texts.specs.Rowed.{row_same};
 
@@ -14,9 +11,9 @@ use fields::buffer::Buffer;
 use fields::fault::Fault;
 use fields::reader::Reader;
 use kinds::pool::holders::{MOST_FLAT, PERMITS};
-use kinds::pool::{Holder, Pool};
+use kinds::pool::{Flat, Permit, Pool};
 
-impl Text for Holder {
+impl Text for Option<Flat> {
     ghost form = { holder_form };
 
     ghost items = { holder_items };
@@ -25,22 +22,35 @@ impl Text for Holder {
 
     ghost apart = { holder_apart };
 
-    fn read(reader: &mut Reader) -> Result<Holder, Fault> {
-        let flat = reader.number(0, MOST_FLAT as u64)?;
-        Ok(Holder { flat: flat as u8 })
+    fn read(reader: &mut Reader) -> Result<Option<Flat>, Fault> {
+        let number = reader.number(0, MOST_FLAT as u64)?;
+        // 0 is the number of no flat.
+        Ok(Flat::try_from(number as u8).ok())
     }
 
     fn write(&self, buffer: &mut Buffer) {
-        buffer.number(self.flat as u64);
+        buffer.number(self.map_or(0, |flat| flat.number as u64));
     }
 }
 
-// The number of the permit granted last, 0 before the first grant.
-fn read_last(reader: &mut Reader) -> Result<u8, Fault>
-    ensures { Reading last_form last_items reader.old reader.new result }
-{
-    let last = reader.number(0, PERMITS as u64)?;
-    Ok(last as u8)
+impl Text for Option<Permit> {
+    ghost form = { last_form };
+
+    ghost items = { last_items };
+
+    ghost fits = { last_fits };
+
+    ghost apart = { last_apart };
+
+    fn read(reader: &mut Reader) -> Result<Option<Permit>, Fault> {
+        let number = reader.number(0, PERMITS as u64)?;
+        // 0 is the number of no permit.
+        Ok(Permit::try_from(number as u8).ok())
+    }
+
+    fn write(&self, buffer: &mut Buffer) {
+        buffer.number(self.map_or(0, |permit| permit.number as u64));
+    }
 }
 
 impl Text for Pool {
@@ -51,19 +61,17 @@ impl Text for Pool {
     ghost fits = { pool_fits };
 
     ghost apart = { λ v w e.
-        let p = row_same holder_form holder_items holder_fits holder_apart v.holders w.holders (num v.last ∷ []) (num w.last ∷ []) (v.whole ∙ sym w.whole) e in
-        let tail = p.1 in
-        let last : v.last ≡ w.last = cc in
-        same_pool v w p.0 last };
+        let p = row_same holder_form holder_items holder_fits holder_apart v.holders w.holders (last_items v.last) (last_items w.last) (v.whole ∙ sym w.whole) e in
+        same_pool v w p.0 (last_apart v.last w.last p.1) };
 
     fn read(reader: &mut Reader) -> Result<Pool, Fault> {
-        let holders = read_row::<Holder, 32>(Holder::nobody(), reader)?;
-        let last = read_last(reader)?;
+        let holders = read_row::<Option<Flat>, 32>(None, reader)?;
+        let last = Option::<Permit>::read(reader)?;
         Ok(Pool { holders, last })
     }
 
     fn write(&self, buffer: &mut Buffer) {
         write_row(&self.holders, buffer);
-        buffer.number(self.last as u64);
+        self.last.write(buffer);
     }
 }
