@@ -12,7 +12,7 @@ use Rattle.keeper.specs.declared.keeper.NoKeeper.{NoKeeper}
 use Rattle.keeper.specs.declared.refusal.KeeperRefusal.{KeeperRefusal}
 use Rattle.keeper.specs.declared.refusal.KeeperRefusal.TheVariants.{WrongMessage, UnknownRegister, StoreShut}
 use Rattle.keeper.specs.declared.step.Step.{Step}
-use Rattle.keeper.specs.declared.step.Step.TheVariants.{Refused, Answered, Stored}
+use Rattle.keeper.specs.declared.step.Step.TheVariants.{Answered, Stored}
 use Rattle.keeper.specs.Steps.{asks, keeper_step}
 
 -- a keeper is made of a number below the group's size; of any other the store is handed back
@@ -20,30 +20,30 @@ abbrev pub MakesKeeperOver : {S V : Type 0} → ℕ → GroupSize → S → Resu
 MakesKeeperOver id group store (Ok keeper) = (id < keepers_in group) × (keeper.id.id ≡ id) × (keeper.store ≡ store)
 MakesKeeperOver id group store (Err e) = (id < keepers_in group → ⊥) × (e.store ≡ store)
 
-abbrev pub step_over : {V : Type 0} → KeeperId → Option (Record V) → Message V → Step V
-step_over keeper None m = Refused UnknownRegister
+abbrev pub step_over : {V : Type 0} → KeeperId → Option (Record V) → Message V → Result (Step V) KeeperRefusal
+step_over keeper None m = Err UnknownRegister
 step_over keeper (Some r) m = keeper_step keeper r m
 
 -- what a keeper does with a message: a reply is refused first, then an unknown register, then the rules decide
-abbrev pub receiving : {V : Type 0} → KeeperId → List (Record V) → Message V → Step V
-receiving keeper records m = cond (asks m.body) (step_over keeper (slice_get records m.head.register) m) (Refused WrongMessage)
+abbrev pub receiving : {V : Type 0} → KeeperId → List (Record V) → Message V → Result (Step V) KeeperRefusal
+receiving keeper records m = cond (asks m.body) (step_over keeper (slice_get records m.head.register) m) (Err WrongMessage)
 
 -- what it replies: a step that stores is refused where the store is shut
-abbrev pub reply_of : {V : Type 0} → Bool → Step V → Result (Message V) KeeperRefusal
-reply_of open? (Refused e) = Err e
-reply_of open? (Answered reply) = Ok reply
-reply_of open? (Stored new reply) = cond open? (Ok reply) (Err StoreShut)
+abbrev pub reply_of : {V : Type 0} → Bool → Result (Step V) KeeperRefusal → Result (Message V) KeeperRefusal
+reply_of open? (Err e) = Err e
+reply_of open? (Ok (Answered reply)) = Ok reply
+reply_of open? (Ok (Stored new reply)) = cond open? (Ok reply) (Err StoreShut)
 
 -- the records that it has then: a step that stores replaces that of the message's register, and no other
-abbrev pub records_after : {V : Type 0} → Bool → List (Record V) → ℕ → Step V → List (Record V)
-records_after open? records register (Refused e) = records
-records_after open? records register (Answered reply) = records
-records_after open? records register (Stored new reply) = records_after_put open? records register new
+abbrev pub records_after : {V : Type 0} → Bool → List (Record V) → ℕ → Result (Step V) KeeperRefusal → List (Record V)
+records_after open? records register (Err e) = records
+records_after open? records register (Ok (Answered reply)) = records
+records_after open? records register (Ok (Stored new reply)) = records_after_put open? records register new
 
-abbrev pub stores? : {V : Type 0} → Step V → Bool
-stores? (Refused e) = false
-stores? (Answered reply) = false
-stores? (Stored new reply) = true
+abbrev pub stores? : {V : Type 0} → Result (Step V) KeeperRefusal → Bool
+stores? (Err e) = false
+stores? (Ok (Answered reply)) = false
+stores? (Ok (Stored new reply)) = true
 
 -- a keeper received a message, over what its store means: its reply and its records after are those of
 -- the step that the rules define; and where nothing is stored, nothing changes

@@ -48,16 +48,18 @@ impl<S: Store> Keeper<S> {
             return Err(KeeperRefusal::WrongMessage);
         }
         let register = message.head.register;
-        let Ok(record) = self.store.get(register) else {
-            return Err(KeeperRefusal::UnknownRegister);
-        };
-        match step(self.id, &record, message) {
-            Step::Refused(refusal) => Err(refusal),
+        let record = self
+            .store
+            .get(register)
+            .map_err(|_| KeeperRefusal::UnknownRegister)?;
+        match step(self.id, &record, message)? {
             Step::Answered(reply) => Ok(reply),
-            Step::Stored(new, reply) => match self.store.put(register, &new) {
-                Ok(()) => Ok(reply),
-                Err(_) => Err(KeeperRefusal::StoreShut),
-            },
+            Step::Stored(new, reply) => {
+                self.store
+                    .put(register, &new)
+                    .map_err(|_| KeeperRefusal::StoreShut)?;
+                Ok(reply)
+            }
         }
     }
 

@@ -57,23 +57,30 @@ fn promise<V: Copy>(keeper: KeeperId, record: &Record<V>, head: Head, at: Number
 }
 
 // P for a write: the keeper picks the number, the one after the promised.
-fn raise<V: Copy>(keeper: KeeperId, record: &Record<V>, head: Head) -> Step<V>
+fn raise<V: Copy>(
+    keeper: KeeperId,
+    record: &Record<V>,
+    head: Head,
+) -> Result<Step<V>, KeeperRefusal>
     ensures { result ≡ raising keeper «record».now head }
 {
-    match Number::after(&record.promised) {
-        Some(at) => promise(keeper, record, head, at),
-        None => Step::Refused(KeeperRefusal::CounterAtTop),
-    }
+    let at = Number::after(&record.promised).ok_or(KeeperRefusal::CounterAtTop)?;
+    Ok(promise(keeper, record, head, at))
 }
 
 // F: the hub picks the number, which has to be above the promised one.
-fn prepare<V: Copy>(keeper: KeeperId, record: &Record<V>, head: Head, at: Number) -> Step<V>
+fn prepare<V: Copy>(
+    keeper: KeeperId,
+    record: &Record<V>,
+    head: Head,
+    at: Number,
+) -> Result<Step<V>, KeeperRefusal>
     ensures { result ≡ preparing keeper «record».now head at }
 {
     if at.n <= record.promised.n {
-        return Step::Refused(KeeperRefusal::Stale);
+        return Err(KeeperRefusal::Stale);
     }
-    promise(keeper, record, head, at)
+    Ok(promise(keeper, record, head, at))
 }
 
 // A vote is taken above the promised number, and in the promised round itself.
@@ -91,7 +98,7 @@ fn vote<V: Copy>(
     head: Head,
     at: Number,
     proposed: V,
-) -> Step<V>
+) -> Result<Step<V>, KeeperRefusal>
     ensures { result ≡ voting keeper «record».now head at proposed }
 {
     let asked = Round::of(&head, at);
@@ -105,23 +112,26 @@ fn vote<V: Copy>(
             head,
             body: Body::Voted(keeper, at),
         };
-        Step::Stored(new, reply)
+        Ok(Step::Stored(new, reply))
     } else {
-        Step::Refused(KeeperRefusal::Stale)
+        Err(KeeperRefusal::Stale)
     }
 }
 
 // What a keeper does with a message. A and D are replies, and ask it for nothing.
-pub(crate) fn step<V: Copy>(keeper: KeeperId, record: &Record<V>, message: &Message<V>) -> Step<V>
+pub(crate) fn step<V: Copy>(
+    keeper: KeeperId,
+    record: &Record<V>,
+    message: &Message<V>,
+) -> Result<Step<V>, KeeperRefusal>
     ensures { result ≡ keeper_step keeper «record».now message.now }
 {
     let head = message.head;
     match message.body {
-        Body::Prepare(Access::Read) => read(keeper, record, head),
+        Body::Prepare(Access::Read) => Ok(read(keeper, record, head)),
         Body::Prepare(Access::Write) => raise(keeper, record, head),
         Body::PrepareAt(at) => prepare(keeper, record, head, at),
         Body::Vote(at, proposed) => vote(keeper, record, head, at, proposed),
-        Body::State(_) => Step::Refused(KeeperRefusal::WrongMessage),
-        Body::Voted(..) => Step::Refused(KeeperRefusal::WrongMessage),
+        Body::State(_) | Body::Voted(..) => Err(KeeperRefusal::WrongMessage),
     }
 }
