@@ -12,109 +12,99 @@ use protocol::round::Round;
 pub(crate) fn asks_a_keeper<V: Copy>(message: &Message<V>) -> bool
     ensures { result ≡ asks message.now.body }
 {
-    match message.body {
-        Body::Prepare(_) => true,
-        Body::PrepareAt(_) => true,
-        Body::Vote(..) => true,
-        Body::State(_) => false,
-        Body::Voted(..) => false,
-    }
-}
-
-// The reply A: this promise, and the vote that the record has.
-fn tell<V: Copy>(keeper: KeeperId, record: &Record<V>, head: Head, promise: Promise) -> Message<V>
-    ensures { result ≡ told keeper «record».now head promise }
-{
-    let state = State {
-        keeper,
-        promise,
-        voted: record.voted,
-        value: record.value,
-    };
-    Message {
-        head,
-        body: Body::State(state),
-    }
-}
-
-// P for a read: the keeper only tells, so that no read holds up a write.
-fn read<V: Copy>(keeper: KeeperId, record: &Record<V>, head: Head) -> Step<V>
-    ensures { result ≡ reading keeper «record».now head }
-{
-    Step::Answered(tell(keeper, record, head, Promise::kept(&record.promised)))
-}
-
-// The keeper promises the asking attempt the round with this number; its vote stays.
-fn promise<V: Copy>(keeper: KeeperId, record: &Record<V>, head: Head, at: Number) -> Step<V>
-    ensures { result ≡ promising keeper «record».now head at }
-{
-    let new = Record {
-        promised: Round::of(&head, at),
-        voted: record.voted,
-        value: record.value,
-    };
-    Step::Stored(new, tell(keeper, record, head, Promise::raised_to(at)))
-}
-
-// P for a write: the keeper picks the number, the one after the promised.
-fn raise<V: Copy>(
-    keeper: KeeperId,
-    record: &Record<V>,
-    head: Head,
-) -> Result<Step<V>, KeeperRefusal>
-    ensures { result ≡ raising keeper «record».now head }
-{
-    let at = Number::after(&record.promised).ok_or(KeeperRefusal::CounterAtTop)?;
-    Ok(promise(keeper, record, head, at))
-}
-
-// F: the hub picks the number, which has to be above the promised one.
-fn prepare<V: Copy>(
-    keeper: KeeperId,
-    record: &Record<V>,
-    head: Head,
-    at: Number,
-) -> Result<Step<V>, KeeperRefusal>
-    ensures { result ≡ preparing keeper «record».now head at }
-{
-    if at.n <= record.promised.n {
-        return Err(KeeperRefusal::Stale);
-    }
-    Ok(promise(keeper, record, head, at))
+    matches!(
+        message.body,
+        Body::Prepare(_) | Body::PrepareAt(_) | Body::Vote(..)
+    )
 }
 
 // A vote is taken above the promised number, and in the promised round itself.
 fn takes_vote(promised: &Round, asked: &Round) -> bool
     ensures { result ≡ takes_vote promised.now asked.now }
 {
-    promised.n < asked.n
-        || (promised.n == asked.n && promised.hub == asked.hub && promised.attempt == asked.attempt)
+    promised.n < asked.n || promised == asked
 }
 
-// V: the keeper votes for the proposed value; the round of the vote is then the promised one, too.
-fn vote<V: Copy>(
+// A keeper's turn at a message: the keeper, its record of the message's register, and the message's head.
+#[derive(Clone, Copy)]
+struct Turn<'a, V> {
     keeper: KeeperId,
-    record: &Record<V>,
+    record: &'a Record<V>,
     head: Head,
-    at: Number,
-    proposed: V,
-) -> Result<Step<V>, KeeperRefusal>
-    ensures { result ≡ voting keeper «record».now head at proposed }
-{
-    let asked = Round::of(&head, at);
-    if takes_vote(&record.promised, &asked) {
+}
+
+impl<V: Copy> Turn<'_, V> {
+    // The reply A: this promise, and the vote that the record has.
+    fn tell(&self, promise: Promise) -> Message<V>
+        ensures { result ≡ told self.now.keeper self.now.«record».now self.now.head promise }
+    {
+        let state = State {
+            keeper: self.keeper,
+            promise,
+            voted: self.record.voted,
+            value: self.record.value,
+        };
+        Message {
+            head: self.head,
+            body: Body::State(state),
+        }
+    }
+
+    // P for a read: the keeper only tells, so that no read holds up a write.
+    fn read(&self) -> Step<V>
+        ensures { result ≡ reading self.now.keeper self.now.«record».now self.now.head }
+    {
+        Step::Answered(self.tell(Promise::kept(&self.record.promised)))
+    }
+
+    // The keeper promises the asking attempt the round with this number; its vote stays.
+    fn promise(&self, at: Number) -> Step<V>
+        ensures { result ≡ promising self.now.keeper self.now.«record».now self.now.head at }
+    {
+        let new = Record {
+            promised: Round::of(&self.head, at),
+            voted: self.record.voted,
+            value: self.record.value,
+        };
+        Step::Stored(new, self.tell(Promise::raised_to(at)))
+    }
+
+    // P for a write: the keeper picks the number, the one after the promised.
+    fn raise(&self) -> Result<Step<V>, KeeperRefusal>
+        ensures { result ≡ raising self.now.keeper self.now.«record».now self.now.head }
+    {
+        let at = Number::after(&self.record.promised).ok_or(KeeperRefusal::CounterAtTop)?;
+        Ok(self.promise(at))
+    }
+
+    // F: the hub picks the number, which has to be above the promised one.
+    fn prepare(&self, at: Number) -> Result<Step<V>, KeeperRefusal>
+        ensures { result ≡ preparing self.now.keeper self.now.«record».now self.now.head at }
+    {
+        if at.n <= self.record.promised.n {
+            return Err(KeeperRefusal::Stale);
+        }
+        Ok(self.promise(at))
+    }
+
+    // V: the keeper votes for the proposed value; the round of the vote is then the promised one, too.
+    fn vote(&self, at: Number, proposed: V) -> Result<Step<V>, KeeperRefusal>
+        ensures { result ≡ voting self.now.keeper self.now.«record».now self.now.head at proposed }
+    {
+        let asked = Round::of(&self.head, at);
+        if !takes_vote(&self.record.promised, &asked) {
+            return Err(KeeperRefusal::Stale);
+        }
         let new = Record {
             promised: asked,
             voted: asked,
             value: proposed,
         };
         let reply = Message {
-            head,
-            body: Body::Voted(keeper, at),
+            head: self.head,
+            body: Body::Voted(self.keeper, at),
         };
         Ok(Step::Stored(new, reply))
-    } else {
-        Err(KeeperRefusal::Stale)
     }
 }
 
@@ -126,12 +116,16 @@ pub(crate) fn step<V: Copy>(
 ) -> Result<Step<V>, KeeperRefusal>
     ensures { result ≡ keeper_step keeper «record».now message.now }
 {
-    let head = message.head;
+    let turn = Turn {
+        keeper,
+        record,
+        head: message.head,
+    };
     match message.body {
-        Body::Prepare(Access::Read) => Ok(read(keeper, record, head)),
-        Body::Prepare(Access::Write) => raise(keeper, record, head),
-        Body::PrepareAt(at) => prepare(keeper, record, head, at),
-        Body::Vote(at, proposed) => vote(keeper, record, head, at, proposed),
+        Body::Prepare(Access::Read) => Ok(turn.read()),
+        Body::Prepare(Access::Write) => turn.raise(),
+        Body::PrepareAt(at) => turn.prepare(at),
+        Body::Vote(at, proposed) => turn.vote(at, proposed),
         Body::State(_) | Body::Voted(..) => Err(KeeperRefusal::WrongMessage),
     }
 }
