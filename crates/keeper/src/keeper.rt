@@ -30,6 +30,7 @@ impl<S: Store> Keeper<S> {
     pub fn new(id: u8, group: GroupSize, store: S) -> Result<Keeper<S>, NoKeeper<S>>
         ensures { MakesKeeperOver id group store result }
     {
+        // Not map and map_err: the store goes into the one or into the other.
         match KeeperId::new(id, group) {
             Ok(id) => Ok(Keeper { id, store }),
             Err(refusal) => Err(NoKeeper { refusal, store }),
@@ -48,6 +49,7 @@ impl<S: Store> Keeper<S> {
             return Err(KeeperRefusal::WrongMessage);
         }
         let register = message.head.register;
+        // Not From<StoreRefusal>: that has a case for a short scratch, which no message meets.
         let record = self
             .store
             .get(register)

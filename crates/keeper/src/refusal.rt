@@ -16,11 +16,11 @@ pub enum KeeperRefusal {
     StoreShut,
 }
 
-impl KeeperRefusal {
-    pub fn reason(self) -> Reason
-        ensures { result ≡ keeper_reason self }
-    {
-        match self {
+impl From<KeeperRefusal> for Reason {
+    ghost from_gives = { λ refusal reason. reason ≡ keeper_reason refusal };
+
+    fn from(refusal: KeeperRefusal) -> Reason {
+        match refusal {
             KeeperRefusal::WrongMessage => Reason::WrongMessage,
             KeeperRefusal::UnknownRegister => Reason::UnknownRegister,
             KeeperRefusal::CounterAtTop => Reason::CounterAtTop,

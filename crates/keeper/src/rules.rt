@@ -25,7 +25,8 @@ fn takes_vote(promised: &Round, asked: &Round) -> bool
     promised.n < asked.n || promised == asked
 }
 
-// A keeper's turn at a message: the keeper, its record of the message's register, and the message's head.
+// A keeper's turn at a message: the keeper, its record of the message's register, and the message's
+// head.
 #[derive(Clone, Copy)]
 struct Turn<'a, V> {
     keeper: KeeperId,

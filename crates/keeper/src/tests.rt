@@ -9,10 +9,7 @@ use stores::table::TableStore;
 
 fn keeper(rt: HostRuntime, id: u8) -> Result<Keeper<TableStore<Meter>>, Fail> {
     let store = TableStore::<Meter>::new(rt.alloc(), 4)?;
-    match Keeper::new(id, GroupSize::Three, store) {
-        Ok(keeper) => Ok(keeper),
-        Err(_) => Err(Fail::new("not below the group's size")),
-    }
+    Keeper::new(id, GroupSize::Three, store).map_err(|_| Fail::new("not below the group's size"))
 }
 
 // The first attempt of hub 1 asks this of a register.
@@ -44,7 +41,7 @@ fn what_is_voted_is_read(rt: HostRuntime) -> Result<(), Fail> {
     let mut keeper = keeper(rt, 2)?;
     let promised = told(&keeper.receive(&asked(3, Body::Prepare(Access::Write))?)?)?.promise;
     assert!(rt; promised.raised);
-    let vote = Body::Vote(Number::new(promised.n)?, Meter::new(7)?);
+    let vote = Body::Vote(Number::try_from(promised.n)?, Meter::try_from(7)?);
     keeper.receive(&asked(3, vote)?)?;
     let state = told(&keeper.receive(&asked(3, Body::Prepare(Access::Read))?)?)?;
     assert_eq!(rt; state.voted.n, 1);
@@ -55,8 +52,8 @@ fn what_is_voted_is_read(rt: HostRuntime) -> Result<(), Fail> {
 #[test]
 fn refusals_say_why(rt: HostRuntime) -> Result<(), Fail> {
     let mut keeper = keeper(rt, 1)?;
-    let at = Number::new(4)?;
-    let voted = keeper.receive(&asked(3, Body::Vote(at, Meter::new(7)?))?)?;
+    let at = Number::try_from(4)?;
+    let voted = keeper.receive(&asked(3, Body::Vote(at, Meter::try_from(7)?))?)?;
     assert_eq!(rt;
         keeper.receive(&asked(3, Body::PrepareAt(at))?).err(),
         Some(KeeperRefusal::Stale)
