@@ -18,7 +18,7 @@ fn write_refusal(reason: Reason, buffer: &mut Buffer)
 {
     buffer.clear();
     buffer.byte(b'X');
-    buffer.number(reason.number() as u64);
+    buffer.number(u8::from(reason) as u64);
     buffer.byte(b'\n');
 }
 
@@ -44,7 +44,7 @@ pub fn answer<T: Text, S: Store<Value = T>>(
     match read::<T>(line) {
         Err(fault) => write_refusal(fault.kind.into(), buffer),
         Ok(message) => match keeper.receive(&message) {
-            Err(refusal) => write_refusal(refusal.reason(), buffer),
+            Err(refusal) => write_refusal(Reason::from(refusal), buffer),
             Ok(reply) => write_reply(&reply, buffer),
         },
     }

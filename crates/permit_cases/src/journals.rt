@@ -18,7 +18,7 @@ use stores::making::NoStore;
 
 // The record that is put as the n-th: a meter with the total n.
 fn nth(n: u32) -> Result<Record<Meter>, Fail> {
-    Ok(Record::new(&Meter::new(n)?))
+    Ok(Record::new(&Meter::try_from(n)?))
 }
 
 // Puts so many records, from this one on, going round the registers.
