@@ -1,8 +1,8 @@
 -- A buffer that was empty is filled by one line.
-use Rattle.std.proofs.Common.{◌≡◌, ℕ, ◌<◌, ◌≤◌, List, [], ◌∷◌, ◌++◌, length, decimal, sym, subst, arith, length-append}
+use Rattle.std.proofs.Common.{◌≡◌, ℕ, ◌<◌, ◌≤◌, List, [], ◌∷◌, ◌++◌, length, decimal, Ok, Err, Result, sym, subst, arith, length-append}
 use Rattle.std.proofs.lemmas.Fmt.{length-decimal-le}
+use Rattle.std.specs.Result.{IsErrAnd}
 use Rattle.protocol.specs.declared.refusal.Reason.{Reason}
-use Rattle.protocol.specs.Refusals.{number_of}
 use Rattle.fields.specs.declared.buffer.Buffer.{Buffer}
 use Rattle.fields.specs.Buffers.{Wrote, Put}
 use Rattle.fields.specs.Forms.{num, written}
@@ -21,6 +21,7 @@ filled_refusal n p q r z small empty first number last =
     let short : length (refusal_line n) ≤ 1024 = omega (arith, digits, length-append (decimal n) [], length-append (written (num n ∷ [])) (10 ∷ [])) in
     filled (refusal_line n) p z empty line (omega (arith, line.counted))
 
--- the same refusal under another name
-pub filled_as : (r s : Reason) (b : Buffer) → r ≡ s → Filled (refusal_line (number_of r)) b → Filled (refusal_line (number_of s)) b
-filled_as r s b e f = subst (λ x. Filled (refusal_line (number_of x)) b) e f
+-- a refusal that goes up comes out with its reason
+pub came_out : {M : Type 0} (P : Result M Reason → Type 0) (r : Result M Reason) (why : Reason) → IsErrAnd r (λ x. x ≡ why) → P (Err why) → P r
+came_out P (Ok m) why e p = absurd e
+came_out P (Err x) why e p = subst (λ y. P (Err y)) (sym e) p

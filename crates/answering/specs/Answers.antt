@@ -1,7 +1,8 @@
 -- What a keeper writes for a line.
-use Rattle.std.specs.Prelude.{◌≡◌, ℕ, ◌<◌, ◌≤◌, Bool, List, [], ◌∷◌, ◌++◌, length, Ok, Err}
+use Rattle.std.specs.Prelude.{◌≡◌, ℕ, ◌<◌, ◌≤◌, Bool, List, [], ◌∷◌, ◌++◌, length, Ok, Err, Result}
 use Rattle.protocol.specs.declared.message.Message.{Message}
 use Rattle.protocol.specs.declared.record.Record.{Record}
+use Rattle.protocol.specs.declared.refusal.Reason.{Reason}
 use Rattle.protocol.specs.declared.refusal.Reason.TheVariants.{NoRoom}
 use Rattle.protocol.specs.Refusals.{number_of}
 use Rattle.fields.specs.declared.buffer.Buffer.{Buffer}
@@ -31,9 +32,20 @@ pub data Replied (line : List ℕ) (buffer : Buffer) : Type 0 where
   in_full : Filled line buffer → Replied line buffer
   too_long : 1024 < length line → Filled (refusal_line (number_of NoRoom)) buffer → Replied line buffer
 
--- a keeper answered a line, over what its store means: the line has a fault, which is named; or it is
--- the line of a message, which the keeper refuses or replies to by its rules
-pub data Answered {S V : Type 0} (value : Form) (items : V → List Item) (records : S → List (Record V)) (opened : S → Bool) (before : Keeper S V) (line : List ℕ) (after : Keeper S V) (buffer : Buffer) : Type 0 where
-  faulty : (e : Fault) → Faulty value line e → after ≡ before → Filled (refusal_line (number_of (fault_reason e.kind))) buffer → Answered value items records opened before line after buffer
-  refused : (m : Message V) (e : KeeperRefusal) → LineOf items m line → Received records opened before m (Err e) after → Filled (refusal_line (number_of (keeper_reason e))) buffer → Answered value items records opened before line after buffer
-  replied : (m reply : Message V) → LineOf items m line → Received records opened before m (Ok reply) after → Replied (line_of items reply) buffer → Answered value items records opened before line after buffer
+-- what a keeper makes of a line, over what its store means: the line has a fault, which is named; or it
+-- is the line of a message, which the keeper refuses or replies to by its rules
+pub data Heard {S V : Type 0} (value : Form) (items : V → List Item) (records : S → List (Record V)) (opened : S → Bool) (before : Keeper S V) (line : List ℕ) (after : Keeper S V) : Result (Message V) Reason → Type 0 where
+  faulty : (e : Fault) → Faulty value line e → after ≡ before → Heard value items records opened before line after (Err (fault_reason e.kind))
+  refused : (m : Message V) (e : KeeperRefusal) → LineOf items m line → Received records opened before m (Err e) after → Heard value items records opened before line after (Err (keeper_reason e))
+  replied : (m reply : Message V) → LineOf items m line → Received records opened before m (Ok reply) after → Heard value items records opened before line after (Ok reply)
+
+-- the buffer holds the line of the reply, or the refusal for this reason
+abbrev pub Says : {V : Type 0} → (V → List Item) → Result (Message V) Reason → Buffer → Type 0
+Says items (Ok reply) buffer = Replied (line_of items reply) buffer
+Says items (Err reason) buffer = Filled (refusal_line (number_of reason)) buffer
+
+-- a keeper answered a line: the buffer says what it made of it
+pub record Answered {S V : Type 0} (value : Form) (items : V → List Item) (records : S → List (Record V)) (opened : S → Bool) (before : Keeper S V) (line : List ℕ) (after : Keeper S V) (buffer : Buffer) : Type 0 where
+  pub outcome : Result (Message V) Reason
+  pub heard : Heard value items records opened before line after outcome
+  pub says : Says items outcome buffer

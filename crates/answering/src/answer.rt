@@ -1,7 +1,7 @@
 // A line comes in; the keeper's reply goes out as a line, or the number of the refusal does.
 ghost use Rattle.protocol.specs.Refusals.{number_of};
 ghost use Rattle.lines.specs.Messages.{line_of};
-ghost use Rattle.answering.specs.Answers.{refusal_line, Filled, Replied, Answered};
+ghost use Rattle.answering.specs.Answers.{refusal_line, Filled, Replied, Heard, Answered};
 
 use fields::buffer::Buffer;
 use keeper::keeper::Keeper;
@@ -33,6 +33,17 @@ fn write_reply<T: Text>(reply: &Message<T>, buffer: &mut Buffer)
     }
 }
 
+// What the keeper makes of a line: its reply, or the reason why there is none.
+fn hear<T: Text, S: Store<Value = T>>(
+    keeper: &mut Keeper<S>,
+    line: &[u8],
+) -> Result<Message<T>, Reason>
+    ensures { Heard T.Text.form T.Text.items S.Store.records S.Store.opened keeper.old line.now keeper.new result }
+{
+    let message = read::<T>(line)?;
+    Ok(keeper.receive(&message)?)
+}
+
 // Answers one line. All that the buffer held before is gone.
 pub fn answer<T: Text, S: Store<Value = T>>(
     keeper: &mut Keeper<S>,
@@ -41,11 +52,8 @@ pub fn answer<T: Text, S: Store<Value = T>>(
 )
     ensures { Answered T.Text.form T.Text.items S.Store.records S.Store.opened keeper.old line.now keeper.new buffer.new }
 {
-    match read::<T>(line) {
-        Err(fault) => write_refusal(fault.kind.into(), buffer),
-        Ok(message) => match keeper.receive(&message) {
-            Err(refusal) => write_refusal(Reason::from(refusal), buffer),
-            Ok(reply) => write_reply(&reply, buffer),
-        },
+    match hear(keeper, line) {
+        Ok(reply) => write_reply(&reply, buffer),
+        Err(reason) => write_refusal(reason, buffer),
     }
 }

@@ -38,3 +38,11 @@ pub struct Fault {
     pub kind: FaultKind,
     pub at: usize,
 }
+
+impl From<Fault> for Reason {
+    ghost from_gives = { λ fault reason. reason ≡ fault_reason fault.kind };
+
+    fn from(fault: Fault) -> Reason {
+        Reason::from(fault.kind)
+    }
+}
