@@ -1,5 +1,5 @@
 -- Making a store.
-use Rattle.std.specs.Prelude.{ℕ, ◌≤◌, Some, None, Option}
+use Rattle.std.specs.Prelude.{ℕ, ◌≤◌, List, Some, None, Option, codes}
 use Rattle.protocol.specs.declared.refusal.Reason.{Reason}
 use Rattle.protocol.specs.declared.refusal.Reason.TheVariants as reason
 use Rattle.stores.specs.declared.making.NoStore.{NoStore}
@@ -9,6 +9,11 @@ use Rattle.stores.specs.declared.making.NoStore.TheVariants.{OutOfRange, NoMemor
 abbrev pub no_store_reason : NoStore → Option Reason
 no_store_reason OutOfRange = Some reason.OutOfRange
 no_store_reason NoMemory = None
+
+-- what a program tells its user
+abbrev pub no_store_text : NoStore → List ℕ
+no_store_text OutOfRange = codes "a number or a length out of range"
+no_store_text NoMemory = codes "no memory for the records"
 
 -- the numbers of registers that a group may serve
 abbrev pub RegisterCount : ℕ → Type 0

@@ -1,5 +1,5 @@
 // The table store: one place for each register, always open.
-ghost use Rattle.std.specs.Prelude.{◌≡◌, length, replicate, IfOk};
+ghost use Rattle.std.specs.Prelude.{◌≡◌, length};
 ghost use Rattle.protocol.specs.Stores.{Cleaned};
 ghost use Rattle.stores.specs.Tables.{table_records, table_open, table_needed, TableCleans, MakesTable};
 
@@ -8,22 +8,11 @@ use protocol::kind::Kind;
 use protocol::record::Record;
 use protocol::refusal::StoreRefusal;
 use protocol::store::{Entry, Store};
-use std::alloc::{AllocError, Global};
+use std::alloc::Global;
 
 #[derive(Drop)]
 pub struct TableStore<V: Copy> {
     table: Vec<Record<V>>,
-}
-
-// So many copies of one record.
-fn copies<V: Copy>(heap: Global, count: u8, record: Record<V>) -> Result<Vec<Record<V>>, AllocError>
-    ensures { IfOk result (λ v. v.items ≡ replicate count «record») }
-{
-    let mut table = Vec::new(heap);
-    for _i in 0..count {
-        table.push(record)?;
-    }
-    Ok(table)
 }
 
 impl<K: Kind> TableStore<K> {
@@ -31,13 +20,13 @@ impl<K: Kind> TableStore<K> {
     pub fn new(heap: Global, registers: u8) -> Result<TableStore<K>, NoStore>
         ensures { MakesTable K.Kind.first registers result }
     {
-        if registers < 1 || registers > 64 {
+        if !(1..=64).contains(&registers) {
             return Err(NoStore::OutOfRange);
         }
-        match copies(heap, registers, Record::new(&K::start())) {
-            Ok(table) => Ok(TableStore { table }),
-            Err(_) => Err(NoStore::NoMemory),
-        }
+        // Not vec!: that clones, and of a clone nothing says that it is the record itself.
+        let mut table = Vec::new(heap);
+        table.resize(usize::from(registers), Record::new(&K::start()))?;
+        Ok(TableStore { table })
     }
 }
 
@@ -53,28 +42,25 @@ impl<V: Copy> Store for TableStore<V> {
     ghost cleans = { TableCleans };
 
     fn get(&self, register: u8) -> Result<Record<V>, StoreRefusal> {
-        let place = register as usize;
-        if place < self.table.len() {
-            Ok(self.table[place])
-        } else {
-            Err(StoreRefusal::UnknownRegister)
-        }
+        self.table
+            .get(usize::from(register))
+            .copied()
+            .ok_or(StoreRefusal::UnknownRegister)
     }
 
     fn put(&mut self, register: u8, new: &Record<V>) -> Result<(), StoreRefusal> {
-        let place = register as usize;
-        if place < self.table.len() {
-            self.table[place] = *new;
-            return Ok(());
-        }
-        Err(StoreRefusal::UnknownRegister)
+        let Some(record) = self.table.get_mut(usize::from(register)) else {
+            return Err(StoreRefusal::UnknownRegister);
+        };
+        *record = *new;
+        Ok(())
     }
 
-    // A table has nothing to clean, and needs no scratch for it.
     fn clean(&mut self, scratch: &mut [Entry<V>]) -> Result<(), StoreRefusal>
         ensures cleaned { Cleaned table_records table_open table_needed TableCleans (length scratch.old) self.old self.new result }
         ensures leaves_the_scratch_as_it_was { scratch.new ≡ scratch.old }
     {
+        // A table has nothing to clean, and needs no scratch for it.
         Ok(())
     }
 }
