@@ -12,9 +12,7 @@ use serve::serve;
 use stores::table::TableStore;
 
 fn run(rt: &HostRuntime) -> anyhow::Result<()> {
-    let Ok(store) = TableStore::<Meter>::new(rt.alloc(), 4) else {
-        return Err(anyhow!("no memory for the records"));
-    };
+    let store = TableStore::<Meter>::new(rt.alloc(), 4)?;
     let Ok(mut keeper) = Keeper::new(0, GroupSize::Three, store) else {
         return Err(anyhow!("no keeper has this number"));
     };
