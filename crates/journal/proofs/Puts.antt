@@ -1,17 +1,23 @@
--- The latest record of each register: with no entry, after one entry more, and one entry back.
-use Rattle.std.proofs.Common.{◌≡◌, ℕ, ◌+◌, ◌-◌, ◌<◌, ◌≤◌, true, false, cond, eqb, ◌⊎◌, List, [], ◌∷◌, ◌++◌, length, get_or, take, set, replicate, Some, None, vec_items, sym, refl, ap, ◌∙◌, inl, inr, arith, below_more}
-use Rattle.std.specs.List.{slice_get}
-use Rattle.std.proofs.lemmas.List.FromFn.{length-map-range_with_len, get_or-map-range_with_len}
-use Rattle.std.proofs.lemmas.List.{same_lists, length-set, get_or-set_same, get_or-set_other, take_all, take_more, get_or_append_left, get_or_push, length-replicate, get_or-replicate}
+-- The latest record of each register: with no entry, after one entry more, and as a search from the newest entry on finds it.
+use Rattle.std.proofs.Common.{Bor, Bool, Option, reverse, ◌||◌, ◌≡◌, ℕ, ◌<◌, ◌≤◌, true, false, cond, eqb, List, [], ◌∷◌, ◌++◌, length, get_or, set, replicate, Some, None, vec_items, sym, refl, ap, ◌∙◌, arith}
+use Rattle.std.specs.List.{slice_get, list_any, find}
+use Rattle.std.specs.Option.{option_map, option_map_or, option_or}
+use Rattle.std.proofs.lemmas.Grind.{common_steps}
+use Rattle.std.proofs.lemmas.List.FromFn.{length-map-range_with_len, get_or-map-range_with_len, fill_by_all}
+use Rattle.std.proofs.lemmas.List.{reverse-append, length-set, length-replicate, get_or-replicate}
+use Rattle.std.proofs.lemmas.List.Folds.{find-append}
 use Rattle.std.proofs.lemmas.Option.{slice_get-get_or, slice_get_past}
-use Rattle.std.proofs.lemmas.Bool.{cases_eq, eq-eqb, ne_eqb}
+use Rattle.std.proofs.lemmas.Bool.Decides.{nat_tests}
 use Rattle.protocol.specs.declared.record.Record.{Record}
 use Rattle.protocol.specs.declared.store.Entry.{Entry}
 use Rattle.journal.specs.declared.journal.JournalStore.{JournalStore}
-use Rattle.journal.specs.Journals.{latest, records_after, journal_records, JournalPuts}
+use Rattle.journal.specs.Journals.{latest, puts_of, records_after, journal_records, JournalPuts}
 
 length_records : {V : Type 0} (n : ℕ) (r : Record V) (es : List (Entry V)) → length (records_after n r es) ≡ n
 length_records n r es = length-map-range_with_len (latest r es) 0 n
+
+get_or-records : {V : Type 0} (n : ℕ) (r : Record V) (es : List (Entry V)) (q : ℕ) (d : Record V) → q < n → get_or (records_after n r es) q d ≡ latest r es q
+get_or-records n r es q d h = get_or-map-range_with_len (latest r es) 0 n q q d h (omega arith)
 
 -- a journal has a record in the place of each register, and none past the last register
 module _ {V : Type 0} (s : JournalStore V) (q : ℕ) where
@@ -19,7 +25,7 @@ module _ {V : Type 0} (s : JournalStore V) (q : ℕ) where
   records_at h =
       let es = vec_items s.entries in
       let l = length_records s.registers s.fresh es in
-      slice_get-get_or (journal_records s) q s.fresh (omega arith) ∙ ap Some (get_or-map-range_with_len (latest s.fresh es) 0 s.registers q q s.fresh h (omega arith))
+      slice_get-get_or (journal_records s) q s.fresh (omega arith) ∙ ap Some (get_or-records s.registers s.fresh es q s.fresh h)
 
   pub records_past : s.registers ≤ q → slice_get (journal_records s) q ≡ None
   records_past h =
@@ -27,11 +33,8 @@ module _ {V : Type 0} (s : JournalStore V) (q : ℕ) where
       slice_get_past (journal_records s) q (omega arith)
 
 -- with no entry every record is the fresh one
-pub records_none : {V : Type 0} (n : ℕ) (r s : Record V) → r ≡ s → records_after n r [] ≡ replicate n s
-records_none n r s e =
-    let a = length_records n r [] in
-    let b = length-replicate n s in
-    same_lists _ _ (a ∙ sym b) (λ k d h. get_or-map-range_with_len (latest r []) 0 n k k d (omega arith) (omega arith) ∙ e ∙ sym (get_or-replicate n k s d (omega arith)))
+pub records_none : {V : Type 0} (n : ℕ) (r : Record V) → records_after n r [] ≡ replicate n r
+records_none n r = sym (fill_by_all (latest r []) (replicate n r) n r (length-replicate n r) (λ k h. get_or-replicate n k r r h))
 
 latest_push : {V : Type 0} (r : Record V) (es : List (Entry V)) (e : Entry V) (q : ℕ) → latest r (es ++ e ∷ []) q ≡ cond (eqb e.register q) e.«record» (latest r es q)
 latest_push r [] e q = refl
@@ -39,61 +42,49 @@ latest_push r (x ∷ es) e q = latest_push (cond (eqb x.register q) x.«record»
 
 -- one entry more replaces that register's record and no other
 module _ {V : Type 0} (n : ℕ) (r : Record V) (es : List (Entry V)) (e : Entry V) (low : e.register < n) where
-  place : (k : ℕ) (d : Record V) → k < n → (k ≡ e.register) ⊎ (k ≡ e.register → ⊥) → get_or (records_after n r (es ++ e ∷ [])) k d ≡ get_or (set (records_after n r es) e.register e.«record») k d
-  place k d h (inl same) =
-      let a = get_or-map-range_with_len (latest r (es ++ e ∷ [])) 0 n k k d h (omega arith) in
-      let b = latest_push r es e k in
-      let t : eqb e.register k ≡ true = eq-eqb _ _ (sym same) in
-      let len = length_records n r es in
-      let w = get_or-set_same (records_after n r es) e.register e.«record» d (omega arith) in
-      a ∙ b ∙ rw (t, same, w)
-  place k d h (inr apart) =
-      let a = get_or-map-range_with_len (latest r (es ++ e ∷ [])) 0 n k k d h (omega arith) in
-      let b = latest_push r es e k in
-      let t : eqb e.register k ≡ false = ne_eqb _ _ (λ z. apart (sym z)) in
-      let w = get_or-set_other (records_after n r es) e.register k e.«record» d apart in
-      let f = get_or-map-range_with_len (latest r es) 0 n k k d h (omega arith) in
-      a ∙ b ∙ rw (t, w, f)
+  place : (k : ℕ) → k < n → get_or (set (records_after n r es) e.register e.«record») k r ≡ latest r (es ++ e ∷ []) k
+  place k h =
+      let p = latest_push r es e k in
+      let l = length_records n r es in
+      let w = get_or-records n r es k r h in
+      grind (arith, common_steps, nat_tests)
 
   pub records_push : records_after n r (es ++ e ∷ []) ≡ set (records_after n r es) e.register e.«record»
   records_push =
-      let a = length_records n r (es ++ e ∷ []) in
-      let b = length_records n r es in
+      let a = length_records n r es in
       let l = length-set (records_after n r es) e.register e.«record» in
-      same_lists _ _ (a ∙ sym b ∙ sym l) (λ k d h. place k d (omega arith) (cases_eq k e.register))
-
--- looking from the newest entry on
-pub latest_all : {V : Type 0} (r : Record V) (es : List (Entry V)) (i q : ℕ) → length es ≤ i → latest r (take i es) q ≡ latest r es q
-latest_all r es i q h = ap (λ l. latest r l q) (take_all i es h)
-
--- one entry back: it is the latest of its register, and of no other
-module _ {V : Type 0} (r : Record V) (es : List (Entry V)) (i q : ℕ) (x : Entry V) (some : 0 < i) (h : i ≤ length es) (e : x ≡ get_or es (i - 1) x) where
-  back : latest r (take i es) q ≡ cond (eqb x.register q) x.«record» (latest r (take (i - 1) es) q)
-  back =
-      let a : i ≡ (i - 1) + 1 = omega arith in
-      let t = take_more es (i - 1) x (omega arith) in
-      ap (λ k. latest r (take k es) q) a ∙ ap (λ z. latest r z q) t ∙ rw (← e) (latest_push r (take (i - 1) es) x q)
-
-  pub latest_hit : x.register ≡ q → latest r (take i es) q ≡ x.«record»
-  latest_hit same = let t = eq-eqb x.register q same in back ∙ rw t
-
-  pub latest_miss : (x.register ≡ q → ⊥) → latest r (take i es) q ≡ latest r (take (i - 1) es) q
-  latest_miss apart = let t = ne_eqb x.register q apart in back ∙ rw t
-
--- every entry is of a known register, after one entry more too
-pub known_push : {V : Type 0} (n m : ℕ) (es fs : List (Entry V)) (e : Entry V) → m ≡ length es → fs ≡ es ++ e ∷ [] → e.register < n → ((k : ℕ) (d : Entry V) → k < m → (get_or es k d).register < n) → (k : ℕ) (d : Entry V) → k < m + 1 → (get_or fs k d).register < n
-known_push n m es fs e z more low all k d h =
-    rw more
-    (below_more (λ j. (get_or (es ++ e ∷ []) j d).register < n) m
-    (λ j h. let lt : j < length es = omega arith in rw get_or_append_left (all j d h))
-    (rw (get_or_push es e d m (sym z)) low) k h)
-
-pub same_records : {V : Type 0} (n m : ℕ) (r s : Record V) (es fs : List (Entry V)) → n ≡ m → r ≡ s → es ≡ fs → records_after n r es ≡ records_after m s fs
-same_records n m r s es fs a b e = λ i. records_after (a i) (b i) (e i)
+      sym (fill_by_all (latest r (es ++ e ∷ [])) _ n r (l ∙ a) place)
 
 -- a put replaces that register's record and no other
 pub records_put : {V : Type 0} (before : JournalStore V) (q : ℕ) (new : Record V) (after : JournalStore V) → q < before.registers → JournalPuts before q new after → journal_records after ≡ set (journal_records before) q new
 records_put {V} before q new after low p =
     let e : Entry V = record { register = q; «record» = new } in
-    let rest = p.making_stays in
-    same_records _ _ _ _ _ _ rest.same_registers rest.same_fresh p.one_entry_more ∙ records_push before.registers before.fresh (vec_items before.entries) e low
+    let pushed = records_push before.registers before.fresh (vec_items before.entries) e low in
+    cc
+
+-- some entry is of a register, in the library's word
+pub puts_any : {V : Type 0} (es : List (Entry V)) (q : ℕ) → puts_of es q ≡ list_any (λ e. eqb e.register q) es
+puts_any [] q = refl
+puts_any (e ∷ es) q = ap (λ b. eqb e.register q || b) (puts_any es q)
+
+-- a search from the newest entry on finds the latest record of a register
+searched : {V : Type 0} (r : Record V) (es : List (Entry V)) (q : ℕ) → option_map_or (λ e. e.«record») (find (λ e. eqb e.register q) (reverse es)) r ≡ latest r es q
+searched r [] q = refl
+searched {V} r (x ∷ es) q =
+    let test = λ (e : Entry V). eqb e.register q in
+    ap (λ l. option_map_or (λ e. e.«record») (find test l) r) (reverse-append (x ∷ []) es)
+    ∙ ap (λ o. option_map_or (λ e. e.«record») o r) (find-append test (reverse es) (x ∷ []))
+    ∙ or_last (find test (reverse es)) (test x)
+    ∙ searched (cond (test x) x.«record» r) es q
+  where
+    or_last : (o : Option (Entry V)) (b : Bool) → option_map_or (λ e. e.«record») (option_or o (cond b (Some x) None)) r ≡ option_map_or (λ e. e.«record») o (cond b x.«record» r)
+    or_last (Some e) b = refl
+    or_last None true = refl
+    or_last None false = refl
+
+pub latest_found : {V : Type 0} (r : Record V) (es : List (Entry V)) (q : ℕ) (o : Option (Bor (Entry V))) → option_map (λ e. e.now) o ≡ find (λ e. eqb e.register q) (reverse es) → option_map_or (λ e. e.now.«record») o r ≡ latest r es q
+latest_found {V} r es q o f = read o ∙ ap (λ p. option_map_or (λ e. e.«record») p r) f ∙ searched r es q
+  where
+    read : (o : Option (Bor (Entry V))) → option_map_or (λ e. e.now.«record») o r ≡ option_map_or (λ e. e.«record») (option_map (λ e. e.now) o) r
+    read None = refl
+    read (Some e) = refl

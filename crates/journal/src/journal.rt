@@ -1,6 +1,5 @@
 // The journal store: each put goes into the next place, and a cleaning makes room again.
-ghost use Rattle.std.specs.Prelude.{ℕ, ◌+◌, ◌<◌, ◌≤◌, vec_len, vec_capacity, slice_index_or};
-ghost use Rattle.protocol.specs.declared.store.Entry.{Entry};
+ghost use Rattle.std.specs.Prelude.{◌+◌, ◌<◌, ◌≤◌, vec_len, vec_capacity, All};
 
 use protocol::record::Record;
 use protocol::store::Entry;
@@ -23,5 +22,5 @@ pub struct JournalStore<V: Copy> {
     ghost places_within: { places ≤ 65536 },
     ghost entries_within: { vec_len entries ≤ places },
     ghost room_reserved: { places ≤ vec_capacity entries },
-    ghost known_registers: { ((k : ℕ) (e : Entry V) → k < vec_len entries → (slice_index_or entries.items k e).register < registers) },
+    ghost known_registers: { All (λ e. e.register < registers) entries.items },
 }

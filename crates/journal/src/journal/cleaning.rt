@@ -1,51 +1,46 @@
 // Makes room in a journal store: of each register only the latest entry stays.
-ghost use Rattle.std.specs.Prelude.{◌≡◌, ℕ, ◌<◌, ◌≤◌, length, drop, vec_capacity, slice_index_or};
-ghost use Rattle.protocol.specs.declared.store.Entry.{Entry};
+ghost use Rattle.std.specs.Prelude.{◌≡◌, ◌<◌, ◌≤◌, length, drop, vec_capacity, All};
 ghost use Rattle.journal.specs.Journals.{puts_of, kept, JournalCleans};
 
 use crate::journal::JournalStore;
 use protocol::store::Entry;
 
-// Whether some entry, from a place on, is of the register.
-fn holds<V: Copy>(entries: &[Entry<V>], from: usize, register: u8) -> bool
-    ensures { result ≡ puts_of (drop from entries.now) register }
+// Whether some entry is of the register.
+fn holds<V: Copy>(entries: &[Entry<V>], register: u8) -> bool
+    ensures { result ≡ puts_of entries.now register }
 {
-    for j in from..entries.len() {
-        if entries[j].register == register {
-            return true;
-        }
-    }
-    false
+    entries.iter().any(|entry| entry.register == register)
 }
 
 // Writes the latest entry of each register into the end of `own`, in the order of putting, and says
 // where they begin. It goes from the newest entry to the oldest, so the first that it meets of a
 // register is the latest; filling `own` from its end keeps their order.
 fn gather<V: Copy>(entries: &[Entry<V>], own: &mut [Entry<V>]) -> usize
-    requires { (k : ℕ) (e : Entry V) → k < length entries.now → (slice_index_or entries.now k e).register < length own.old }
+    requires { All (λ e. e.register < length own.old) entries.now }
     ensures within { result ≤ length own.new }
     ensures gathered { drop result own.new ≡ kept entries.now }
 {
     let mut from = own.len();
-    for i in (0..entries.len()).rev() {
-        let entry = entries[i];
-        if !holds(own, from, entry.register) {
+    for entry in entries.iter().rev() {
+        let (_, gathered) = own.split_at(from);
+        if !holds(gathered, entry.register) {
             from -= 1;
-            own[from] = entry;
+            own[from] = *entry;
         }
     }
     from
 }
 
-// Puts the entries of `own`, from a place on, in the stead of those that were there.
-fn refill<V: Copy>(entries: &mut Vec<Entry<V>>, own: &[Entry<V>], from: usize)
-    requires { (from ≤ length own.now) × (length own.now ≤ vec_capacity entries.old) }
-    ensures items { entries.new.items ≡ drop from own.now }
+// Puts other entries in the stead of those that were there. Not extend_from_slice: it does not
+// promise to take no memory.
+fn refill<V: Copy>(entries: &mut Vec<Entry<V>>, kept: &[Entry<V>])
+    requires { length kept.now ≤ vec_capacity entries.old }
+    ensures items { entries.new.items ≡ kept.now }
     ensures same_capacity { vec_capacity entries.new ≡ vec_capacity entries.old }
 {
     entries.clear();
-    for j in from..own.len() {
-        entries.push_reserved(own[j]);
+    for entry in kept {
+        entries.push_reserved(*entry);
     }
 }
 
@@ -56,8 +51,9 @@ impl<V: Copy> JournalStore<V> {
         ensures cleans { JournalCleans self.old self.new }
         ensures same_length { length scratch.new ≡ length scratch.old }
     {
-        let own = &mut scratch[0..self.registers as usize];
+        let own = &mut scratch[0..usize::from(self.registers)];
         let from = gather(self.entries.as_slice(), own);
-        refill(&mut self.entries, own, from);
+        let (_, gathered) = own.split_at(from);
+        refill(&mut self.entries, gathered);
     }
 }

@@ -1,5 +1,5 @@
 // A journal store as a store: it gets, puts and cleans.
-ghost use Rattle.std.specs.Prelude.{◌≡◌, ◌<◌, true, false, length, is_ok, vec_len};
+ghost use Rattle.std.specs.Prelude.{◌≡◌, ◌==◌, ◌<◌, true, false, find, length, option_map, reverse, is_ok, vec_len};
 ghost use Rattle.protocol.specs.Stores.{put_answer, records_after_put, Cleaned};
 ghost use Rattle.journal.specs.Journals.{latest, journal_records, journal_open, JournalPuts, journal_needed, JournalCleans, FreeScratch};
 
@@ -9,17 +9,22 @@ use protocol::refusal::StoreRefusal;
 use protocol::store::{Entry, Store};
 
 impl<V: Copy> JournalStore<V> {
-    // The record of a register. The newest entries are looked at first, since the latest one counts.
+    // The newest entry of a register, if it has any.
+    fn newest(&self, register: u8) -> Option<&Entry<V>>
+        ensures { option_map (λ e. e.now) result ≡ find (λ e. e.register == register) (reverse self.now.entries.items) }
+    {
+        self.entries
+            .iter()
+            .rev()
+            .find(|entry| entry.register == register)
+    }
+
+    // The record of a register: that of its newest entry counts.
     fn latest(&self, register: u8) -> Record<V>
         ensures { result ≡ latest self.now.fresh self.now.entries.items register }
     {
-        for i in (0..self.entries.len()).rev() {
-            let entry = self.entries[i];
-            if entry.register == register {
-                return entry.record;
-            }
-        }
-        self.fresh
+        self.newest(register)
+            .map_or(self.fresh, |entry| entry.record)
     }
 
     // Writes an entry into the next place.
@@ -72,7 +77,7 @@ impl<V: Copy> Store for JournalStore<V> {
         ensures leaves_a_free_scratch { FreeScratch scratch.old scratch.new result }
         ensures is_open_after_a_cleaning { is_ok result ≡ true → journal_open self.new ≡ true }
     {
-        if scratch.len() < self.registers as usize {
+        if scratch.len() < usize::from(self.registers) {
             return Err(StoreRefusal::ShortScratch);
         }
         self.compact(scratch);

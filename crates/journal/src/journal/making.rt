@@ -13,18 +13,15 @@ impl<K: Kind> JournalStore<K> {
     pub fn new(heap: Global, registers: u8, places: usize) -> Result<JournalStore<K>, NoStore>
         ensures { MakesJournal K.Kind.first registers places result }
     {
-        if registers < 1 || registers > 64 || places <= registers as usize || places > 65536 {
+        let places_within = usize::from(registers) + 1..=65536;
+        if !(1..=64).contains(&registers) || !places_within.contains(&places) {
             return Err(NoStore::OutOfRange);
         }
-        let fresh = Record::new(&K::start());
-        match Vec::with_capacity(heap, places) {
-            Ok(entries) => Ok(JournalStore {
-                entries,
-                registers,
-                places,
-                fresh,
-            }),
-            Err(_) => Err(NoStore::NoMemory),
-        }
+        Ok(JournalStore {
+            entries: Vec::with_capacity(heap, places)?,
+            registers,
+            places,
+            fresh: Record::new(&K::start()),
+        })
     }
 }

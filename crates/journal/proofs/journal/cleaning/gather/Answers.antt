@@ -1,29 +1,45 @@
-use Rattle.std.proofs.Common.{◌-◌, ◌≤◌, length, arith, rules}
-use Rattle.std.proofs.lemmas.List.{length-set}
-use Rattle.journal.proofs.Cleans.{kept_none, kept_old, kept_room, kept_write}
+use Rattle.std.proofs.Common.{◌≡◌, ◌-◌, ◌<◌, ◌≤◌, ◌++◌, ◌∷◌, [], Bool, true, false, drop, length, ap, sym, ◌∙◌}
+use Rattle.std.proofs.lemmas.List.{length-append}
+use Rattle.std.proofs.lemmas.List.Elements.{All-drop}
+use Rattle.std.proofs.lemmas.Iterator.Consumers.{YieldsList-turn}
+use Rattle.std.proofs.lemmas.Iterator.Adapters.{YieldsList-from_rev_slice}
+use Rattle.journal.specs.Journals.{puts_of}
+use Rattle.journal.proofs.Cleans.{one_back, gathered_old, gathered_new, gathered_room}
 use Rattle.journal.proofs.journal.cleaning.gather.Given as given
 use Rattle.journal.proofs.journal.cleaning.gather.Goals as goal
+use Rattle.journal.proofs.journal.cleaning.gather.Goals.{After-holds}
 
-pub loop-i-init : goal.loop-i-init
-loop-i-init g c = search (rules, kept_none)
+module _ (g : given.Over) (c : After-holds g) where
+  -- the entry that is met stands before those that were met
+  met : drop (length c.args.entries.now - length (c.loop-entry.yielded ++ c.in-Some.entry ∷ [])) c.args.entries.now ≡ c.in-Some.entry.now ∷ drop (length c.args.entries.now - length c.loop-entry.yielded) c.args.entries.now
+  met =
+      let es = c.args.entries.now in
+      let road = YieldsList-from_rev_slice es cc in
+      let t = YieldsList-turn road c.loop-entry.yielded c.loop-entry.entry-iterator c.loop-entry.yielded_by c.next.result c.next.new.self c.in-Some.entry c.in-Some.is c.next.ensures.steps in
+      one_back es (length c.loop-entry.yielded) _ c.in-Some.entry.now (length-append c.loop-entry.yielded (c.in-Some.entry ∷ [])) t.0 t.1
 
--- there is room for an entry of a register that none was gathered of
-module _ (g : given.Over) (c : goal.Then-not-holds g) where
-  room : 1 ≤ c.loop-i.from
-  room = kept_room c.args.entries.now c.loop-i.own c.loop-i.i c.loop-i.from c.index-entries-i.result (omega arith) (omega arith) (omega arith) c.loop-i.invariant.1 c.index-entries-i.is (length c.args.own.now) (omega arith) c.requires c.if-not-holds.ensures
+  -- what the test told is of the entries that are gathered
+  told : (b : Bool) → c.holds.result ≡ b → puts_of (drop c.loop-entry.from c.loop-entry.own) c.in-Some.entry.now.register ≡ b
+  told b h = ap (λ l. puts_of l c.in-Some.entry.now.register) (sym c.split_at.ensures.back) ∙ sym c.holds.ensures ∙ h
+
+  room : c.holds.result ≡ false → 1 ≤ c.loop-entry.from
+  room h =
+      let es = c.args.entries.now in
+      let own = c.loop-entry.own in
+      let l = c.loop-entry.auto.own in
+      let low = All-drop (λ e. e.register < length own) (length es - length (c.loop-entry.yielded ++ c.in-Some.entry ∷ [])) es (rw l c.requires) in
+      gathered_room c.loop-entry.invariant c.in-Some.entry.now (rw met at low) (told false h)
 
 pub overflow_sub-from : goal.overflow_sub-from
-overflow_sub-from g c = room g c
+overflow_sub-from g c = room g (goal.at.overflow_sub-from g c).After-holds c.if-not-holds.true
 
-pub offset_bounds-own-from : goal.offset_bounds-own-from
-offset_bounds-own-from g c = let r = room g c in search rules
+pub loop-entry-preserved-then-not-holds : goal.loop-entry-preserved-then-not-holds
+loop-entry-preserved-then-not-holds g c =
+    let d = (goal.at.loop-entry-preserved-then-not-holds g c).After-holds in
+    let h = c.if-not-holds.true in
+    rw (met g d) (gathered_new c.loop-entry.invariant c.in-Some.entry.now (room g d h) (told g d false h))
 
-pub loop-i-preserved-then-not-holds : goal.loop-i-preserved-then-not-holds
-loop-i-preserved-then-not-holds g c =
-    let r = room g c in
-    let l = length-set c.loop-i.own (c.loop-i.from - 1) c.index-entries-i.result in
-    (omega arith, kept_write c.args.entries.now c.loop-i.own c.loop-i.i c.loop-i.from c.index-entries-i.result (omega arith) (omega arith) (omega arith) c.loop-i.invariant.1 c.index-entries-i.is r c.if-not-holds.ensures)
-
-pub loop-i-preserved : goal.loop-i-preserved
-loop-i-preserved g c =
-    (c.loop-i.invariant.0, kept_old c.args.entries.now c.loop-i.own c.loop-i.i c.loop-i.from c.index-entries-i.result (omega arith) (omega arith) (omega arith) c.loop-i.invariant.1 c.index-entries-i.is c.if-not-holds.ensures)
+pub loop-entry-preserved : goal.loop-entry-preserved
+loop-entry-preserved g c =
+    let d = (goal.at.loop-entry-preserved g c).After-holds in
+    rw (met g d) (gathered_old c.loop-entry.invariant c.in-Some.entry.now (told g d true c.if-not-holds.false))

@@ -1,6 +1,7 @@
-use Rattle.std.proofs.Common.{◌≡◌, ◌≤◌, length, drop}
-use Rattle.journal.specs.Journals.{kept}
+use Rattle.std.proofs.Common.{◌-◌, length, drop}
+use Rattle.journal.proofs.Cleans.{Gathered}
 use Rattle.journal.proofs.journal.cleaning.gather.Given as goal
 
-abbrev pub invariant-loop-i : goal.invariant-loop-i
-invariant-loop-i g l = (l.from ≤ length l.own) × (drop l.from l.own ≡ kept (drop l.i l.entries))
+-- of the entries that were met, which are the newest, the latest ones are gathered
+abbrev pub invariant-loop-entry : goal.invariant-loop-entry
+invariant-loop-entry g l = Gathered (drop (length l.entries - length l.yielded) l.entries) l.own l.from
