@@ -1,5 +1,5 @@
 -- What a cleaning keeps: how it is gathered and written back, how much it is, and that it leaves every record as it was.
-use Rattle.std.proofs.Common.{reverse, get_or, ◌≡◌, ℕ, ◌+◌, ◌-◌, ◌<◌, ◌≤◌, Bool, true, false, cond, ◌||◌, eqb, List, [], ◌∷◌, map, length, All, drop, set, vec_items, sym, refl, ap, ◌∙◌, arith}
+use Rattle.std.proofs.Common.{reverse, get_or, ◌≡◌, ℕ, ◌+◌, ◌-◌, ◌<◌, ◌≤◌, Bool, true, false, cond, eqb, List, [], ◌∷◌, map, length, All, drop, set, vec_items, sym, refl, ap, ◌∙◌, arith}
 use mathlib.Core.Path.{fun_ext}
 use Rattle.std.specs.List.{range_with_len, IsDistinct, AllByRecursion}
 use Rattle.std.proofs.lemmas.List.{length-map, length-drop, length-set, drop-set, drop_more, length-reverse, get_or-reverse}
@@ -13,22 +13,10 @@ use Rattle.protocol.specs.declared.store.Entry.{Entry}
 use Rattle.journal.specs.declared.journal.JournalStore.{JournalStore}
 use Rattle.journal.specs.Journals.{puts_of, kept, latest, journal_records, journal_open, JournalCleans}
 
--- an entry of a register that has a later entry brings no register more
-puts_old : {V : Type 0} (e : Entry V) (es : List (Entry V)) (q : ℕ) → puts_of es e.register ≡ true → puts_of (e ∷ es) q ≡ puts_of es q
-puts_old e es q p = by (eqb e.register q) refl
-  where
-    by : (b : Bool) → eqb e.register q ≡ b → (b || puts_of es q) ≡ puts_of es q
-    by true t = sym (ap (puts_of es) (sym (eqb-true _ _ t)) ∙ p)
-    by false t = refl
-
--- the latest entries are of the same registers
+-- the latest entries are of the same registers as all entries
 puts_kept : {V : Type 0} (es : List (Entry V)) (q : ℕ) → puts_of (kept es) q ≡ puts_of es q
 puts_kept [] q = refl
-puts_kept (e ∷ es) q = by (puts_of es e.register) refl (puts_kept es q)
-  where
-    by : (b : Bool) → puts_of es e.register ≡ b → puts_of (kept es) q ≡ puts_of es q → puts_of (cond b (kept es) (e ∷ kept es)) q ≡ puts_of (e ∷ es) q
-    by true p ih = ih ∙ sym (puts_old e es q p)
-    by false p ih = ap (λ z. eqb e.register q || z) ih
+puts_kept (e ∷ es) q = let ih = puts_kept es q in grind (arith, nat_tests)
 
 -- what holds of each entry holds of the latest ones
 pub kept_all : {V : Type 0} (P : Entry V → Type 0) (es : List (Entry V)) → All P es → All P (kept es)
@@ -71,8 +59,9 @@ one_back es k m x e h at =
     let i = length es - 1 - k in
     let a : length es - m ≡ i = omega arith in
     let b : i + 1 ≡ length es - k = omega arith in
-    let read = at ∙ get_or-reverse es k x (omega arith) in
-    ap (λ j. drop j es) a ∙ drop_more es i x (omega arith) ∙ ap (λ j. get_or es i x ∷ drop j es) b ∙ ap (λ y. y ∷ drop (length es - k) es) (sym read)
+    let read = get_or-reverse es k x (omega arith) in
+    let more = drop_more es i x (omega arith) in
+    cc
 
 -- the latest of some entries stand from p on at the end of `own`
 pub record Gathered {V : Type 0} (es own : List (Entry V)) (p : ℕ) : Type 0 where
@@ -103,26 +92,17 @@ module _ {V : Type 0} {es own : List (Entry V)} {p : ℕ} (got : Gathered es own
       let l = got.within in
       let s = length-set own (p - 1) x in
       let a : (p - 1) + 1 ≡ p = omega arith in
-      record {
-        within = omega arith;
-        latest_ones = drop-set own (p - 1) x (omega arith) ∙ ap (λ k. x ∷ drop k own) a ∙ kept_new h;
-      }
+      let w = drop-set own (p - 1) x (omega arith) in
+      let k = kept_new h in
+      record { within = omega arith; latest_ones = cc }
 
 -- where a register has an entry, what it had before does not matter
 latest_any : {V : Type 0} (es : List (Entry V)) (q : ℕ) → puts_of es q ≡ true → (r s : Record V) → latest r es q ≡ latest s es q
 latest_any [] q p r s = cc
-latest_any {V} (e ∷ es) q p r s = by (eqb e.register q) p (latest_any es q)
-  where
-    by : (b : Bool) → (b || puts_of es q) ≡ true → (puts_of es q ≡ true → (r s : Record V) → latest r es q ≡ latest s es q) → latest (cond b e.«record» r) es q ≡ latest (cond b e.«record» s) es q
-    by true t ih = refl
-    by false t ih = ih t r s
+latest_any (e ∷ es) q p r s = let ih = λ (h : puts_of es q ≡ true). latest_any es q h r s in grind (arith, nat_tests)
 
 latest_old : {V : Type 0} (e : Entry V) (es : List (Entry V)) (q : ℕ) (r : Record V) → puts_of es e.register ≡ true → latest r es q ≡ latest r (e ∷ es) q
-latest_old e es q r p = by (eqb e.register q) refl
-  where
-    by : (b : Bool) → eqb e.register q ≡ b → latest r es q ≡ latest (cond b e.«record» r) es q
-    by true t = latest_any es q (ap (puts_of es) (sym (eqb-true _ _ t)) ∙ p) r e.«record»
-    by false t = refl
+latest_old e es q r p = let any = λ (h : puts_of es q ≡ true). latest_any es q h r e.«record» in grind (arith, nat_tests)
 
 -- the latest entries leave every record as it was
 latest_kept : {V : Type 0} (es : List (Entry V)) (q : ℕ) (r : Record V) → latest r (kept es) q ≡ latest r es q

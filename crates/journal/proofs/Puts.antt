@@ -72,10 +72,7 @@ searched : {V : Type 0} (r : Record V) (es : List (Entry V)) (q : ℕ) → optio
 searched r [] q = refl
 searched {V} r (x ∷ es) q =
     let test = λ (e : Entry V). eqb e.register q in
-    ap (λ l. option_map_or (λ e. e.«record») (find test l) r) (reverse-append (x ∷ []) es)
-    ∙ ap (λ o. option_map_or (λ e. e.«record») o r) (find-append test (reverse es) (x ∷ []))
-    ∙ or_last (find test (reverse es)) (test x)
-    ∙ searched (cond (test x) x.«record» r) es q
+    rw (reverse-append (x ∷ []) es, find-append test (reverse es) (x ∷ [])) (or_last (find test (reverse es)) (test x) ∙ searched (cond (test x) x.«record» r) es q)
   where
     or_last : (o : Option (Entry V)) (b : Bool) → option_map_or (λ e. e.«record») (option_or o (cond b (Some x) None)) r ≡ option_map_or (λ e. e.«record») o (cond b x.«record» r)
     or_last (Some e) b = refl

@@ -1,9 +1,8 @@
-use Rattle.std.proofs.Common.{◌≡◌, ◌-◌, ◌<◌, ◌≤◌, ◌++◌, ◌∷◌, [], Bool, true, false, drop, length, ap, sym, ◌∙◌}
+use Rattle.std.proofs.Common.{◌≡◌, ◌-◌, ◌<◌, ◌≤◌, ◌++◌, ◌∷◌, [], false, drop, length}
 use Rattle.std.proofs.lemmas.List.{length-append}
 use Rattle.std.proofs.lemmas.List.Elements.{All-drop}
 use Rattle.std.proofs.lemmas.Iterator.Consumers.{YieldsList-turn}
 use Rattle.std.proofs.lemmas.Iterator.Adapters.{YieldsList-from_rev_slice}
-use Rattle.journal.specs.Journals.{puts_of}
 use Rattle.journal.proofs.Cleans.{one_back, gathered_old, gathered_new, gathered_room}
 use Rattle.journal.proofs.journal.cleaning.gather.Given as given
 use Rattle.journal.proofs.journal.cleaning.gather.Goals as goal
@@ -18,17 +17,13 @@ module _ (g : given.Over) (c : After-holds g) where
       let t = YieldsList-turn road c.loop-entry.yielded c.loop-entry.entry-iterator c.loop-entry.yielded_by c.next.result c.next.new.self c.in-Some.entry c.in-Some.is c.next.ensures.steps in
       one_back es (length c.loop-entry.yielded) _ c.in-Some.entry.now (length-append c.loop-entry.yielded (c.in-Some.entry ∷ [])) t.0 t.1
 
-  -- what the test told is of the entries that are gathered
-  told : (b : Bool) → c.holds.result ≡ b → puts_of (drop c.loop-entry.from c.loop-entry.own) c.in-Some.entry.now.register ≡ b
-  told b h = ap (λ l. puts_of l c.in-Some.entry.now.register) (sym c.split_at.ensures.back) ∙ sym c.holds.ensures ∙ h
-
   room : c.holds.result ≡ false → 1 ≤ c.loop-entry.from
   room h =
       let es = c.args.entries.now in
       let own = c.loop-entry.own in
       let l = c.loop-entry.auto.own in
       let low = All-drop (λ e. e.register < length own) (length es - length (c.loop-entry.yielded ++ c.in-Some.entry ∷ [])) es (rw l c.requires) in
-      gathered_room c.loop-entry.invariant c.in-Some.entry.now (rw met at low) (told false h)
+      gathered_room c.loop-entry.invariant c.in-Some.entry.now (rw met at low) cc
 
 pub overflow_sub-from : goal.overflow_sub-from
 overflow_sub-from g c = room g (goal.at.overflow_sub-from g c).After-holds c.if-not-holds.true
@@ -37,9 +32,9 @@ pub loop-entry-preserved-then-not-holds : goal.loop-entry-preserved-then-not-hol
 loop-entry-preserved-then-not-holds g c =
     let d = (goal.at.loop-entry-preserved-then-not-holds g c).After-holds in
     let h = c.if-not-holds.true in
-    rw (met g d) (gathered_new c.loop-entry.invariant c.in-Some.entry.now (room g d h) (told g d false h))
+    rw (met g d) (gathered_new c.loop-entry.invariant c.in-Some.entry.now (room g d h) cc)
 
 pub loop-entry-preserved : goal.loop-entry-preserved
 loop-entry-preserved g c =
     let d = (goal.at.loop-entry-preserved g c).After-holds in
-    rw (met g d) (gathered_old c.loop-entry.invariant c.in-Some.entry.now (told g d true c.if-not-holds.false))
+    rw (met g d) (gathered_old c.loop-entry.invariant c.in-Some.entry.now cc)
