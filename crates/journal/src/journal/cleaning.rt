@@ -51,7 +51,7 @@ impl<V: Copy> JournalStore<V> {
         ensures cleans { JournalCleans self.old self.new }
         ensures same_length { length scratch.new ≡ length scratch.old }
     {
-        let own = &mut scratch[0..usize::from(self.registers)];
+        let own = &mut scratch[..usize::from(self.registers)];
         let from = gather(self.entries.as_slice(), own);
         let (_, gathered) = own.split_at(from);
         refill(&mut self.entries, gathered);
