@@ -67,14 +67,14 @@ pub access_fits : (a : Access) → Fit access_form (access_items a)
 access_fits Read = (inl refl, tt)
 access_fits Write = (inr refl, tt)
 
-letter_same : (a b : Access) → access_letter a ≡ access_letter b → a ≡ b
-letter_same Read Read e = refl
-letter_same Read Write e = absurd (omega (arith, e))
-letter_same Write Read e = absurd (omega (arith, e))
-letter_same Write Write e = refl
+access_same : (a b : Access) → access_letter a ≡ access_letter b → a ≡ b
+access_same Read Read e = refl
+access_same Read Write e = absurd (omega (arith, e))
+access_same Write Read e = absurd (omega (arith, e))
+access_same Write Write e = refl
 
 pub access_apart : (a b : Access) → access_items a ≡ access_items b → a ≡ b
-access_apart a b e = letter_same a b (cc)
+access_apart a b e = access_same a b (cc)
 
 pub state_fits : {V : Type 0} (value : Form) (items : V → List Item) → ((v : V) → Fit value (items v)) → (s : State V) → Fit (state_form value) (state_items items s)
 state_fits value items fits s =
