@@ -13,10 +13,9 @@ use stores::table::TableStore;
 
 fn run(rt: &HostRuntime) -> anyhow::Result<()> {
     let store = TableStore::<Meter>::new(rt.alloc(), 4)?;
-    let Ok(mut keeper) = Keeper::new(0, GroupSize::Three, store) else {
-        return Err(anyhow!("no keeper has this number"));
-    };
-    serve(rt, &mut keeper)?;
+    let keeper = Keeper::new(0, GroupSize::Three, store)
+        .map_err(|_| anyhow!("no keeper has this number"))?;
+    serve(rt, keeper)?;
     Ok(())
 }
 

@@ -4,69 +4,70 @@ use fields::buffer::Buffer;
 use keeper::keeper::Keeper;
 use protocol::store::Store;
 use std::io;
-use std::io::{BufWriter, ErrorKind, Read, Write};
+use std::io::{BufWriter, Write};
 use texts::text::Text;
 
-// How much is read at a time.
-const CHUNK: usize = 65536;
-
-// Answers the line that has come, and makes room for the next. Of a line that is too long the first
-// 1,024 bytes are kept: they have no line feed, so they are refused as the line would be.
-fn answer_line<T: Text, S: Store<Value = T>, W: Write>(
-    keeper: &mut Keeper<S>,
-    line: &mut Buffer,
-    reply: &mut Buffer,
-    output: &mut W,
-) -> io::Result<()> {
-    answer(keeper, line.kept(), reply);
-    line.clear();
-    output.write_all(reply.kept())
+// A keeper that is served with lines: the line that is coming in, the reply to the last one, and where
+// replies go.
+#[derive(Drop)]
+struct Served<S: Store, W> {
+    keeper: Keeper<S>,
+    line: Buffer,
+    reply: Buffer,
+    output: W,
 }
 
-// Takes bytes that have come, and answers each line that ends among them.
-fn take<T: Text, S: Store<Value = T>, W: Write>(
-    keeper: &mut Keeper<S>,
-    line: &mut Buffer,
-    reply: &mut Buffer,
-    bytes: &[u8],
-    output: &mut W,
-) -> io::Result<()> {
-    for byte in bytes {
-        line.byte(*byte);
-        if *byte == b'\n' {
-            answer_line(keeper, line, reply, output)?;
-        }
+impl<T: Text, S: Store<Value = T>, W: Write> Served<S, W> {
+    // Answers the line that has come, and makes room for the next. Of a line that is too long the first
+    // 1,024 bytes are kept: they have no line feed, so they are refused as the line would be.
+    fn answer_line(&mut self) -> io::Result<()> {
+        answer(&mut self.keeper, self.line.kept(), &mut self.reply);
+        self.line.clear();
+        self.output.write_all(self.reply.kept())
     }
-    Ok(())
+
+    // What stands behind the last line feed is a line without one, and is refused as such.
+    fn end(&mut self) -> io::Result<()> {
+        if self.line.count > 0 {
+            self.answer_line()?;
+        }
+        self.output.flush()
+    }
 }
 
-// Serves until the input ends. Replies go out before more input is waited for. What stands behind
-// the last line feed is a line without one, and is refused as such.
+// Bytes that come in are written to it: it answers each line that ends among them, and sends the
+// replies out before it takes more.
+impl<T: Text, S: Store<Value = T>, W: Write> Write for Served<S, W> {
+    fn write(&mut self, bytes: &[u8]) -> io::Result<usize> {
+        for &byte in bytes {
+            self.line.byte(byte);
+            if byte == b'\n' {
+                self.answer_line()?;
+            }
+        }
+        self.output.flush()?;
+        Ok(bytes.len())
+    }
+
+    fn flush(&mut self) -> io::Result<()> {
+        self.output.flush()
+    }
+}
+
+// Serves the keeper until the input ends.
 pub fn serve<T: Text, S: Store<Value = T>>(
     rt: &HostRuntime,
-    keeper: &mut Keeper<S>,
-) -> io::Result<()> {
-    let mut input = rt.stdin();
-    let mut output = BufWriter::new(rt.alloc(), rt.stdout())?;
-    let mut chunk = vec![in rt.alloc(); 0u8; CHUNK]?;
-    let mut line = Buffer::new();
-    let mut reply = Buffer::new();
-    for _ in 0..u64::MAX {
-        match input.read(&mut chunk) {
-            Ok(0) => break,
-            Ok(n) => {
-                take(keeper, &mut line, &mut reply, &chunk[0..n], &mut output)?;
-                output.flush()?;
-            }
-            Err(e) => {
-                if e.kind() != ErrorKind::Interrupted {
-                    return Err(e);
-                }
-            }
-        }
-    }
-    if line.count > 0 {
-        answer_line(keeper, &mut line, &mut reply, &mut output)?;
-    }
-    output.flush()
+    keeper: Keeper<S>,
+) -> io::Result<()>
+where
+    S: Drop,
+{
+    let mut served = Served {
+        keeper,
+        line: Buffer::new(),
+        reply: Buffer::new(),
+        output: BufWriter::new(rt.alloc(), rt.stdout())?,
+    };
+    io::copy(&mut rt.stdin(), &mut served)?;
+    served.end()
 }
