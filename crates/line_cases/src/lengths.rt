@@ -5,10 +5,7 @@ use std::test::Fail;
 // A line F of so many bytes, whose n is as many digits as there is room for.
 fn long_line(length: usize) -> [u8; 1025] {
     let mut line = [b'9'; 1025];
-    let front = b"F\t3\t1\t5\t";
-    for (i, b) in front.iter().enumerate() {
-        line[i] = *b;
-    }
+    line[..8].copy_from_slice(b"F\t3\t1\t5\t");
     if 8 < length && length <= 1025 {
         line[length - 1] = b'\n';
     }

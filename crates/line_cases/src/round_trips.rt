@@ -20,9 +20,7 @@ fn back(rt: &impl Abort, line: &[u8]) -> Result<(), Fail> {
     let message = read::<Meter>(line)?;
     let n = write(&message, &mut out)?;
     assert_eq!(rt; n, line.len());
-    for i in 0..n {
-        assert!(rt; i < out.len() && i < line.len() && out[i] == line[i]);
-    }
+    assert_eq!(rt; out.get(..n), Some(line));
     Ok(())
 }
 
