@@ -1,6 +1,6 @@
 -- Texts written one behind another.
-use Rattle.std.proofs.Common.{◌≡◌, ℕ, zero, suc, ◌+◌, ◌<◌, ◌≤◌, List, [], ◌∷◌, ◌++◌, length, take, set, sym, refl, ap, ◌∙◌, subst, append_assoc, append-nil, arith, length-append, length-take, take_all}
-use Rattle.std.proofs.lemmas.List.{take_more_set, take_at}
+use Rattle.std.proofs.Common.{◌≡◌, ℕ, zero, suc, ◌+◌, ◌<◌, ◌≤◌, List, [], ◌∷◌, ◌++◌, length, get_or, take, set, sym, refl, ap, ◌∙◌, subst, append_assoc, append-nil, arith, length-append, length-take, take_all}
+use Rattle.std.proofs.lemmas.List.{take_more, take_more_set, take_at}
 use Rattle.fields.specs.declared.buffer.Buffer.{Buffer}
 use Rattle.fields.specs.Buffers.{content, Wrote, Put}
 use Rattle.fields.specs.Forms.{Item, spelt, written}
@@ -15,6 +15,18 @@ wrote_join t s p q z g h = record {
   counted = omega (arith, g.counted, h.counted, length-append t s);
   kept = h.kept ∙ ap (λ l. take 1024 (l ++ s)) g.kept ∙ take_join 1024 (content p ++ t) s ∙ ap (take 1024) (append_assoc (content p) t s);
 }
+
+-- nothing is written
+pub wrote_none : (b : Buffer) → Wrote [] b b
+wrote_none b =
+    let within = b.within in
+    let whole = b.whole in
+    record { counted = omega arith; kept = sym (ap (take 1024) (append-nil (content b)) ∙ take_all 1024 (content b) (omega (arith, length-take b.count b.bytes))) }
+
+-- one byte more of a text
+pub wrote_more : (t : List ℕ) (i b : ℕ) (p q z : Buffer) → i < length t → b ≡ get_or t i 0 → Wrote (take i t) p q → Wrote (b ∷ []) q z → Wrote (take (i + 1) t) p z
+wrote_more t i b p q z l e g h =
+    subst (λ s. Wrote s p z) (ap (λ x. take i t ++ (x ∷ [])) e ∙ sym (take_more t i 0 l)) (wrote_join (take i t) (b ∷ []) p q z g h)
 
 -- a byte that is kept
 pub byte_kept : (bs : List ℕ) (n b : ℕ) → length bs ≡ 1024 → n < 1024 → take (n + 1) (set bs n b) ≡ take 1024 (take n bs ++ (b ∷ []))

@@ -65,12 +65,9 @@ impl Buffer {
     pub(crate) fn digits(&mut self, n: u64)
         ensures { Wrote (decimal n) self.old self.new }
     {
-        if n < 10 {
-            self.byte(b'0' + n as u8);
-            return;
+        for b in itoa::Buffer::new().format(n).as_bytes() {
+            self.byte(*b);
         }
-        self.digits(n / 10);
-        self.byte(b'0' + (n % 10) as u8);
     }
 
     // A field that is a number.
