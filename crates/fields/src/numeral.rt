@@ -1,5 +1,5 @@
 // Numbers in decimal digits.
-ghost use Rattle.std.specs.Prelude.{◌≡◌, ◌^◌, min, MatchBool, MatchOption};
+ghost use Rattle.std.specs.Prelude.{◌≡◌, ◌^◌, min, IsTrue, ◌↔◌, MatchOption};
 ghost use Rattle.fields.specs.Numerals.{StartsWell, Numeral, number};
 
 // Far above every number of a line: a greater one, however long, is read as this one.
@@ -7,7 +7,7 @@ pub const CAP: u64 = 1 << 50;
 
 // One byte or more, and no zero in front of others.
 fn starts_well(field: &[u8]) -> bool
-    ensures { MatchBool result (StartsWell field.now) (StartsWell field.now → ⊥) }
+    ensures { IsTrue result ↔ StartsWell field.now }
 {
     !matches!(field, [] | [b'0', _, ..])
 }

@@ -1,5 +1,5 @@
 // Cuts a line: is it framed, where does a field end, and what is the field.
-ghost use Rattle.std.specs.Prelude.{◌≡◌, ℕ, ◌<◌, ◌≤◌, length, MatchBool, slice_index};
+ghost use Rattle.std.specs.Prelude.{◌≡◌, ℕ, ◌<◌, ◌≤◌, length, IsTrue, ◌↔◌, slice_index};
 ghost use Rattle.fields.specs.Cuts.{Mark, Framed};
 ghost use Rattle.fields.specs.Readers.{Opening};
 ghost use Rattle.fields.specs.Tokens.{Says};
@@ -11,7 +11,7 @@ use crate::token::{Token, TokenKind};
 
 // At most 1,024 bytes, of which the last is the only line feed.
 fn framed(line: &[u8]) -> bool
-    ensures { MatchBool result (Framed line.now) (Framed line.now → ⊥) }
+    ensures { IsTrue result ↔ Framed line.now }
 {
     match line.split_last() {
         Some((b'\n', rest)) => rest.len() < LONGEST && !rest.contains(&b'\n'),

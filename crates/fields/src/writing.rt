@@ -53,9 +53,8 @@ impl Buffer {
         ensures { Wrote (b ∷ []) self.old self.new }
     {
         if self.count < LONGEST {
-            let at = self.count;
-            self.bytes[at] = b;
-            self.count = at + 1;
+            self.bytes[self.count] = b;
+            self.count += 1;
         } else {
             self.count = LONGEST + 1;
         }
