@@ -15,12 +15,8 @@ prefix [] [] t u p q h k e = (refl, e)
 prefix [] (b ∷ g) t u p q h k e = absurd (q.0 (subst Ends e h))
 prefix (a ∷ f) [] t u p q h k e = absurd (p.0 (subst Ends (sym e) k))
 prefix (a ∷ f) (b ∷ g) t u p q h k e =
-    let same : a ≡ b = cc in
-    let more : f ++ t ≡ g ++ u = cc in
-    let r = prefix f g t u p.1 q.1 h k more in
-    let x = r.0 in
-    let y : a ∷ f ≡ b ∷ g = cc in
-    (y, r.1)
+    let r = prefix f g t u p.1 q.1 h k (cc) in
+    let x = r.0 in (cc, r.1)
 
 -- the first of the items that begin bs is its first field
 first_item : (s : Shape) (i : Item) (is : List Item) (bs f t more : List ℕ) → Meets s i → Ends more → Next bs f t → bs ≡ written (i ∷ is) ++ more → (f ≡ spelt i) × (t ≡ written is ++ more)
@@ -41,9 +37,7 @@ items_same (field s next) (i ∷ is) (j ∷ js) t u a b h k e =
     let r = first_item s j js (written (i ∷ is) ++ t) (spelt i) (written is ++ t) u b.0 k n e in
     let z : i ≡ j = item_same s i j a.0 b.0 r.0 in
     let q = items_same (next i) is js t u a.1 (subst (λ x. Fit (next x) js) (sym z) b.1) h k r.1 in
-    let w = q.0 in
-    let v : i ∷ is ≡ j ∷ js = cc in
-    (v, q.1)
+    let w = q.0 in (cc, q.1)
 
 wrong_meets : (s : Shape) (f : List ℕ) (k : FaultKind) → Wrong s f k → (i : Item) → f ≡ spelt i → Meets s i → ⊥
 wrong_meets _ f k (no_number n) (num m) e a = n (subst Numeral (sym e) (numeral_decimal m a.2).0)

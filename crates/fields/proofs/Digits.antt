@@ -1,5 +1,5 @@
 -- A number's digits, read one by one.
-use Rattle.std.proofs.Common.{◌≡◌, ℕ, ◌+◌, ◌-◌, ◌*◌, ◌^◌, ◌<◌, ◌≤◌, min, List, [], ◌∷◌, length, get_or, take, decimal, sym, refl, ap, ◌∙◌, subst, inr, ⊎_elim, arith, take_all, rules}
+use Rattle.std.proofs.Common.{◌≡◌, ℕ, ◌+◌, ◌-◌, ◌*◌, ◌^◌, ◌<◌, ◌≤◌, min, List, [], ◌∷◌, length, get_or, take, decimal, sym, subst, inr, arith, rules}
 use Rattle.std.specs.Str.Parse.{AllDigits, digits_value}
 use Rattle.std.specs.Char.{digit_value}
 use Rattle.std.specs.Int.{IsInRange, IsOutOfRange}
@@ -7,34 +7,22 @@ use Rattle.std.proofs.lemmas.Fmt.{decimal-digits_value, decimal_is_IsNumeral, fi
 use Rattle.std.proofs.lemmas.Int.Digits.{digits_value_more, digits_more}
 use Rattle.std.proofs.ByRecursion.{All-from_get_or}
 use Rattle.std.proofs.lemmas.Str.Parse.{digit_at, tells_digits, numerals_by_value, IsNumeralModel}
-use Rattle.std.proofs.lemmas.Bool.{cases_lt}
 use Rattle.fields.specs.Cuts.{Mark, Plain}
-use Rattle.fields.specs.Numerals.{StartsWell, Numeral, number}
-
-digit_of : (c : ℕ) → IsInRange 48 57 c → (digit_value c ≡ c - 48) × (digit_value c < 10)
-digit_of c h = search rules
+use Rattle.fields.specs.Numerals.{Numeral, number}
 
 -- the first i bytes are digits, which write n, or more than the cap where n is that
 pub record SoFar (f : List ℕ) (i n : ℕ) : Type 0 where
   pub digits : AllDigits 10 (take i f)
   pub capped : n ≡ min (number (take i f)) (2 ^ 50)
 
-pub none_yet : (f : List ℕ) → SoFar f 0 0
-none_yet f = record { digits = tt; capped = refl }
-
 pub one_more : (f : List ℕ) (i n m : ℕ) → SoFar f i n → i < length f → IsInRange 48 57 (get_or f i 0) → m ≡ min (n * 10 + (get_or f i 0 - 48)) (2 ^ 50) → SoFar f (i + 1) m
 one_more f i n m s l h e =
-    let d = digit_of (get_or f i 0) h in
+    let d : (digit_value (get_or f i 0) ≡ get_or f i 0 - 48) × (digit_value (get_or f i 0) < 10) = search rules in
     let v = digits_value_more 10 f i l in
     record { digits = digits_more 10 f i l s.digits d.1; capped = omega (arith, e, v, s.capped, d.0) }
 
 pub no_digit : (f : List ℕ) (i : ℕ) → i < length f → IsOutOfRange 48 57 (get_or f i 0) → Numeral f → ⊥
-no_digit f i l o n = let d = digit_at f i n.digits l in omega (arith, d)
-
-pub all_read : (f : List ℕ) (i n : ℕ) → SoFar f i n → length f ≤ i → StartsWell f → Numeral f × (n ≡ min (number f) (2 ^ 50))
-all_read f i n s l starts =
-    let e = take_all i f l in
-    (record { starts = starts; digits = subst (AllDigits 10) e s.digits }, s.capped ∙ ap (λ g. min (number g) (2 ^ 50)) e)
+no_digit f i l o n = omega (arith, digit_at f i n.digits l)
 
 -- a field of one byte that is no digit is no number
 pub no_digit_alone : (f : List ℕ) (b : ℕ) → Numeral f → f ≡ b ∷ [] → 57 < b → ⊥
@@ -50,10 +38,7 @@ decimal_number f n h = decimal-digits_value own f n.digits n.starts.some n.start
 pub numeral_decimal : (n : ℕ) → n ≤ 2 ^ 40 → Numeral (decimal n) × (number (decimal n) ≡ n)
 numeral_decimal n h =
     let r = decimal_is_IsNumeral n (omega arith) in
-    (record { starts = record { some = r.0.0; no_zero = no_zero n h }; digits = r.0.1 }, r.1)
-  where
-    no_zero : (n : ℕ) → n ≤ 2 ^ 40 → get_or (decimal n) 0 0 ≡ 48 → length (decimal n) ≡ 1
-    no_zero n h e = ⊎_elim (λ p. absurd (omega (arith, first_decimal n p (omega arith), e))) (λ p. ap length (decimal_digit n (omega arith))) (cases_lt 0 n)
+    (record { starts = record { some = r.0.0; no_zero = λ e. grind (arith, first_decimal n, decimal_digit n) }; digits = r.0.1 }, r.1)
 
 -- digits hold no tab and no line feed
 pub plain_digits : (f : List ℕ) → AllDigits 10 f → Plain f

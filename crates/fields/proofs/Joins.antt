@@ -25,7 +25,7 @@ item_same (range lo hi) (num m) (letter c) a b e = absurd b
 item_same (range lo hi) (letter c) j a b e = absurd a
 item_same access (num m) j a b e = absurd a
 item_same access (letter c) (num n) a b e = absurd b
-item_same access (letter c) (letter d) a b e = let x : c ≡ d = cc in ap letter x
+item_same access (letter c) (letter d) a b e = cc
 
 pub ends_on : (is : List Item) (more : List ℕ) → Ends more → Ends (written is ++ more)
 ends_on [] more h = h

@@ -80,11 +80,9 @@ module _ (p q : Reader) where
   went_one s i t h e m = record {
     same_line = h.same_line;
     there = h.next.is ∙ ap (λ l. 9 ∷ (l ++ rest q)) (sym e ∙ sym (append-nil (spelt i)));
-    on = h.on ∙ ap (λ f. p.at + 1 + length f) (sym e) ∙ one_long (spelt i);
+    on = omega (arith, h.on, ap length e, ap length (append-nil (spelt i)));
     fit = (m, tt);
-  } where
-    one_long : (f : List ℕ) → p.at + 1 + length f ≡ p.at + length (9 ∷ (f ++ []))
-    one_long f = omega (arith, ap length (append-nil f))
+  }
 
   -- a field that is wrong, which the reader does not pass
   wrong_at : (s : Shape) (t : Token) (k : FaultKind) → Passed p q t → Wrong s t.bytes.now k → FaultAt p p (one s) (record { kind = k; at = p.at + 1 })

@@ -1,8 +1,7 @@
 -- What lies between a tab and the next mark of a line.
-use Rattle.std.proofs.Common.{◌≡◌, ℕ, ◌+◌, ◌-◌, ◌<◌, ◌≤◌, List, [], ◌∷◌, ◌++◌, length, get_or, take, drop, sym, ap, ◌∙◌, subst, ⊎_elim, arith, length-drop, take-append-drop, length-take, get_or-drop, get_or-take, drop-drop}
+use Rattle.std.proofs.Common.{◌≡◌, ℕ, ◌+◌, ◌-◌, ◌<◌, ◌≤◌, List, length, get_or, take, drop, sym, ap, ◌∙◌, subst, arith, length-drop, take-append-drop, length-take, get_or-drop, get_or-take, drop-drop}
 use Rattle.std.proofs.ByRecursion.{All-from_get_or}
-use Rattle.std.proofs.lemmas.List.{drop_more, drop_all}
-use Rattle.std.proofs.lemmas.Bool.{cases_lt}
+use Rattle.std.proofs.lemmas.List.{drop_more}
 use Rattle.fields.specs.Cuts.{Mark, Closed, Plain, Ends, Next}
 
 -- the field behind the tab at `from` ends at `to`
@@ -31,36 +30,24 @@ plain_up_to line from to w none i lo hi m =
 
 module _ (line : List ℕ) (from to : ℕ) (in_line : from < length line) (mark : Mark (get_or line from 0)) (closed : Closed line) (no_feed : get_or line from 0 ≡ 10 → ⊥) (h : FieldEnds line from to) where
   tab : get_or line from 0 ≡ 9
-  tab = ⊎_elim (λ l. let e : get_or line from 0 ≡ 9 = omega (arith, mark) in e) (λ l. absurd (no_feed (let e : get_or line from 0 ≡ 10 = omega (arith, mark) in e))) (cases_lt (get_or line from 0) 10)
+  tab = grind arith
 
   -- the tab is not the last byte
   early : from + 1 < length line
-  early =
-      ⊎_elim (λ l. l)
-      (λ l. let e : length line - 1 ≡ from = omega arith in absurd (no_feed (sym (ap (λ i. get_or line i 0) e) ∙ closed.last)))
-      (cases_lt (from + 1) (length line))
+  early = grind (arith, closed.last)
 
   pub short : to < length line
-  short =
-      ⊎_elim (λ l. l)
-      (λ l. let e = early in let w = h.within in absurd (h.plain (length line - 1) (omega arith) (omega arith) (let f = closed.last in (omega arith, omega arith))))
-      (cases_lt to (length line))
+  short = grind (arith, early, closed.last, h.within, h.plain)
 
   pub cut : Next (drop from line) (take (to - (from + 1)) (drop (from + 1) line)) (drop to line)
   cut =
       let n = to - (from + 1) in
       let e : from + 1 + n ≡ to = omega (arith, h.after) in
       record {
-        is = drop_more line from 0 in_line ∙ ap (λ b. b ∷ drop (from + 1) line) tab ∙ ap (λ l. 9 ∷ l) (sym (take-append-drop n (drop (from + 1) line)) ∙ ap (λ l. take n (drop (from + 1) line) ++ l) (drop-drop n (from + 1) line ∙ ap (λ i. drop i line) e));
+        is = grind (arith, tab, drop_more line from 0, take-append-drop n (drop (from + 1) line), drop-drop n (from + 1) line, e);
         plain = plain_cut line (from + 1) n (λ i lo hi. h.plain i lo (omega arith));
         ends = ends_drop line to short (h.stops short);
       }
 
   pub length_cut : to ≡ from + 1 + length (take (to - (from + 1)) (drop (from + 1) line))
   length_cut = omega (arith, length-take (to - (from + 1)) (drop (from + 1) line), length-drop (from + 1) line, h.after, h.within)
-
--- the line feed is the last byte
-pub at_feed : (line : List ℕ) (at : ℕ) → at < length line → Closed line → get_or line at 0 ≡ 10 → drop at line ≡ 10 ∷ []
-at_feed line at w closed h =
-    let e : at + 1 ≡ length line = ⊎_elim (λ l. absurd (closed.only at l h)) (λ l. let r : at + 1 ≡ length line = omega arith in r) (cases_lt (at + 1) (length line)) in
-    drop_more line at 0 w ∙ ap (λ b. b ∷ drop (at + 1) line) h ∙ ap (λ l. 10 ∷ l) (drop_all (at + 1) line (omega arith))

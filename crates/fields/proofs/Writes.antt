@@ -30,13 +30,11 @@ wrote_more t i b p q z l e g h =
 
 -- a byte that is kept
 pub byte_kept : (bs : List ℕ) (n b : ℕ) → length bs ≡ 1024 → n < 1024 → take (n + 1) (set bs n b) ≡ take 1024 (take n bs ++ (b ∷ []))
-byte_kept bs n b w h =
-    take_more_set bs n b (omega arith) ∙ sym (take_all 1024 (take n bs ++ (b ∷ [])) (omega (arith, length-append (take n bs) (b ∷ []), length-take n bs)))
+byte_kept bs n b w h = grind (arith, take_more_set bs n b, take_all 1024 (take n bs ++ (b ∷ [])), length-append (take n bs) (b ∷ []), length-take n bs)
 
 -- and one past the longest line
 pub byte_lost : (bs : List ℕ) (n b : ℕ) → length bs ≡ 1024 → 1024 ≤ n → take 1025 bs ≡ take 1024 (take n bs ++ (b ∷ []))
-byte_lost bs n b w h =
-    take_all 1025 bs (omega arith) ∙ sym (take_at bs (b ∷ []) 1024 w) ∙ ap (λ l. take 1024 (l ++ (b ∷ []))) (sym (take_all n bs (omega arith)))
+byte_lost bs n b w h = grind (arith, take_all 1025 bs, take_all n bs, take_at bs (b ∷ []) 1024)
 
 pub written_append : (is js : List Item) → written (is ++ js) ≡ written is ++ written js
 written_append [] js = refl
