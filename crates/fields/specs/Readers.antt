@@ -7,7 +7,7 @@ use Rattle.fields.specs.declared.fault.FaultKind.{FaultKind}
 use Rattle.fields.specs.declared.fault.FaultKind.TheVariants.{Frame, Letter, Count, Form as BadForm, Range}
 use Rattle.fields.specs.declared.reader.Reader.{Reader}
 use Rattle.fields.specs.declared.token.Token.{Token}
-use Rattle.fields.specs.Cuts.{Mark, Framed, Next}
+use Rattle.fields.specs.Cuts.{Mark, Framed, Plain, Next}
 use Rattle.fields.specs.Faults.{FaultIn}
 use Rattle.fields.specs.Forms.{Item, letter, written, Form, Fit}
 
@@ -85,3 +85,15 @@ pub record FirstEnds (line : List ℕ) (end : ℕ) : Type 0 where
 abbrev pub Opening : List ℕ → Result ℕ Fault → Type 0
 Opening line (Ok end) = FirstEnds line end
 Opening line (Err e) = (Framed line → ⊥) × (e.kind ≡ Frame) × (e.at ≡ 0)
+
+-- a framed line begins with the field of the token t, and the reader p stands behind it
+pub record Opened (line : List ℕ) (t : Token) (p : Reader) : Type 0 where
+  pub framed : Framed line
+  pub same_line : p.line.now ≡ line
+  pub is : line ≡ t.bytes.now ++ rest p
+  pub on : p.at ≡ length t.bytes.now
+  pub plain : Plain t.bytes.now
+
+-- a line is not framed
+abbrev pub Unframed : List ℕ → Fault → Type 0
+Unframed line e = (Framed line → ⊥) × (e.kind ≡ Frame) × (e.at ≡ 0)

@@ -1,12 +1,13 @@
 // Cuts a line: is it framed, where does a field end, and what is the field.
-ghost use Rattle.std.specs.Prelude.{◌≡◌, ℕ, ◌<◌, ◌≤◌, length, IsTrue, ◌↔◌, slice_index};
+ghost use Rattle.std.specs.Prelude.{◌≡◌, ℕ, ◌<◌, ◌≤◌, length, IsTrue, ◌↔◌, MatchResult, slice_index};
 ghost use Rattle.fields.specs.Cuts.{Mark, Framed};
-ghost use Rattle.fields.specs.Readers.{Opening};
+ghost use Rattle.fields.specs.Readers.{Opening, Opened, Unframed};
 ghost use Rattle.fields.specs.Tokens.{Says};
 
 use crate::buffer::LONGEST;
 use crate::fault::{Fault, FaultKind};
 use crate::numeral::number_of;
+use crate::reader::Reader;
 use crate::token::{Token, TokenKind};
 
 // At most 1,024 bytes, of which the last is the only line feed.
@@ -67,4 +68,15 @@ pub fn first_end(line: &[u8]) -> Result<usize, Fault>
         });
     }
     Ok(field_end(line, 0))
+}
+
+impl<'a> Reader<'a> {
+    // The first field of a line, and a reader that stands behind it; refuses what is no framed line.
+    pub fn open(line: &'a [u8]) -> Result<(Token<'a>, Reader<'a>), Fault>
+        ensures { MatchResult result (λ p. Opened line.now p.0 p.1) (λ e. Unframed line.now e) }
+    {
+        let at = first_end(line)?;
+        let first = token_of(&line[..at], 0);
+        Ok((first, Reader { line, at }))
+    }
 }

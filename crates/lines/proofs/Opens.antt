@@ -1,50 +1,29 @@
 -- From the fields behind the first one to the line.
-use Rattle.std.proofs.Common.{◌≡◌, ℕ, ◌+◌, List, [], ◌∷◌, ◌++◌, length, take, drop, Ok, Err, sym, refl, ap, ◌∙◌, subst, arith, take-append-drop, length-take}
+use Rattle.std.proofs.Common.{◌≡◌, ℕ, ◌+◌, List, [], ◌∷◌, ◌++◌, length, drop, Ok, Err, sym, ap, ◌∙◌, subst, arith}
 use Rattle.std.proofs.lemmas.List.{drop_more}
 use Rattle.protocol.specs.declared.message.Body.{Body}
 use Rattle.protocol.specs.declared.message.Head.{Head}
 use Rattle.fields.specs.declared.fault.Fault.{Fault}
 use Rattle.fields.specs.declared.reader.Reader.{Reader}
 use Rattle.fields.specs.declared.token.Token.{Token}
-use Rattle.fields.specs.Cuts.{Framed, Plain}
 use Rattle.fields.specs.Faults.{FaultIn}
 use Rattle.fields.specs.Forms.{Item, written, Form}
-use Rattle.fields.specs.Readers.{rest, FirstEnds, Went, FaultAt, Ending}
+use Rattle.fields.specs.Readers.{rest, Opened, Went, FaultAt, Ending}
 use Rattle.fields.proofs.Joins.{then_went}
 use Rattle.fields.proofs.Parts.{ends_rest}
-use Rattle.fields.proofs.Slices.{plain_cut}
 use Rattle.texts.specs.Parts.{head_form, head_items}
 use Rattle.lines.specs.declared.letter.MessageKind.{MessageKind}
 use Rattle.lines.specs.Letters.{letter, kind_of, Naming}
 use Rattle.lines.specs.Lines.{LineOf, Faulty, unknown, field, extra}
 use Rattle.lines.specs.Messages.{body_form, body_items, BodyReading, message_form}
 
--- f is the first field of the line, and the reader p stands behind it
-pub record Opened (line f : List ℕ) (p : Reader) : Type 0 where
-  pub framed : Framed line
-  pub same_line : p.line.now ≡ line
-  pub split : line ≡ f ++ rest p
-  pub on : p.at ≡ length f
-  pub plain : Plain f
+module _ {V : Type 0} (value : Form) (items : V → List Item) (line : List ℕ) (t : Token) (p : Reader) (o : Opened line t p) where
+  pub unknown_letter : (e : Fault) → Naming t (Err e) → Faulty value line e
+  unknown_letter e h = unknown t.bytes.now (rest p) o.is o.plain (ends_rest p) h.0 h.1 h.2
 
-pub opened : (p : Reader) (f : List ℕ) → FirstEnds p.line.now p.at → f ≡ take p.at p.line.now → Opened p.line.now f p
-opened p f h e =
-    let line = p.line.now in
-    record {
-      framed = h.framed;
-      same_line = refl;
-      split = sym (take-append-drop p.at line) ∙ ap (λ x. x ++ rest p) (sym e);
-      on = let w = p.within in omega (arith, ap length e, length-take p.at line);
-      plain = subst Plain (sym e) (plain_cut line 0 p.at (λ i lo hi. h.plain i (omega arith)));
-    }
-
-module _ {V : Type 0} (value : Form) (items : V → List Item) (line f : List ℕ) (p : Reader) (o : Opened line f p) where
-  pub unknown_letter : (t : Token) (e : Fault) → f ≡ t.bytes.now → Naming t (Err e) → Faulty value line e
-  unknown_letter t e is h = unknown f (rest p) o.split o.plain (ends_rest p) (λ k x. h.0 k (sym is ∙ x)) h.1 h.2
-
-  module _ (k : MessageKind) (named : f ≡ letter k ∷ []) where
+  module _ (k : MessageKind) (named : t.bytes.now ≡ letter k ∷ []) where
     behind : (line ≡ letter k ∷ rest p) × (p.at ≡ 1)
-    behind = (o.split ∙ ap (λ g. g ++ rest p) named, o.on ∙ ap length named)
+    behind = (o.is ∙ ap (λ g. g ++ rest p) named, o.on ∙ ap length named)
 
     pub told_fault : (q : Reader) (e : Fault) → FaultAt p q (message_form value k) e → Faulty value line e
     told_fault q e h = field k (rest p) behind.0 (subst (λ n. FaultIn (message_form value k) (rest p) n e) behind.1 h.there)

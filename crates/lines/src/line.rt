@@ -7,7 +7,6 @@ use crate::reading::read_body;
 use crate::writing::write_line;
 use fields::buffer::{Buffer, TooLong};
 use fields::fault::Fault;
-use fields::opening::{first_end, token_of};
 use fields::reader::Reader;
 use protocol::message::{Head, Message};
 use texts::text::Text;
@@ -16,9 +15,8 @@ use texts::text::Text;
 pub fn read<T: Text>(line: &[u8]) -> Result<Message<T>, Fault>
     ensures { Reads T.Text.form T.Text.items line.now result }
 {
-    let end = first_end(line)?;
-    let kind = named_by(token_of(&line[..end], 0))?;
-    let mut reader = Reader { line, at: end };
+    let (first, mut reader) = Reader::open(line)?;
+    let kind = named_by(first)?;
     let head = Head::read(&mut reader)?;
     let body = read_body::<T>(kind, &mut reader)?;
     reader.end()?;
