@@ -52,7 +52,7 @@ pub fn refused(rt: &impl Abort, line: &[u8], number: u8, at: usize) -> Result<()
     match read::<Meter>(line) {
         Ok(_) => Err(Fail::new("a faulty line was read")),
         Err(fault) => {
-            assert_eq!(rt; Reason::from(fault.kind).number(), number);
+            assert_eq!(rt; u8::from(Reason::from(fault)), number);
             assert_eq!(rt; fault.at, at);
             Ok(())
         }

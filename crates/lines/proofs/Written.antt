@@ -1,5 +1,5 @@
 -- Writing a message.
-use Rattle.std.proofs.Common.{◌≡◌, ℕ, ◌≤◌, List, [], ◌∷◌, ◌++◌, length, take, drop, sym, ap, ◌∙◌, subst, arith, take_all}
+use Rattle.std.proofs.Common.{◌≡◌, ℕ, ◌≤◌, List, [], ◌∷◌, ◌++◌, length, take, drop, ap, ◌∙◌, subst, arith, take_all}
 use Rattle.protocol.specs.declared.message.Message.{Message}
 use Rattle.fields.specs.declared.buffer.Buffer.{Buffer}
 use Rattle.fields.specs.Buffers.{content, Wrote, Put}
