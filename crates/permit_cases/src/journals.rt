@@ -94,10 +94,7 @@ fn a_journal_for_all_registers_goes_on(rt: HostRuntime) -> Result<(), Fail> {
 }
 
 fn refused(rt: &HostRuntime, registers: u8, places: usize) -> Option<NoStore> {
-    match JournalStore::<Meter>::new(rt.alloc(), registers, places) {
-        Ok(_) => None,
-        Err(refusal) => Some(refusal),
-    }
+    JournalStore::<Meter>::new(rt.alloc(), registers, places).err()
 }
 
 #[test]
