@@ -52,6 +52,7 @@ pub fn answer<T: Text, S: Store<Value = T>>(
 )
     ensures { Answered T.Text.form T.Text.items S.Store.records S.Store.opened keeper.old line.now keeper.new buffer.new }
 {
+    // Not passed up: a refusal is answered as well, by a line of its own.
     match hear(keeper, line) {
         Ok(reply) => write_reply(&reply, buffer),
         Err(reason) => write_refusal(reason, buffer),

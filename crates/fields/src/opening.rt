@@ -28,6 +28,7 @@ pub(crate) fn field_end(line: &[u8], from: usize) -> usize
     ensures plain { (i : ℕ) → from ≤ i → i < result → Mark (slice_index line.now i) → ⊥ }
     ensures stops { result < length line.now → Mark (slice_index line.now result) }
 {
+    // A match and no map_or: the two ends are proved one by one.
     match line[from..]
         .iter()
         .position(|b| matches!(*b, b'\t' | b'\n'))

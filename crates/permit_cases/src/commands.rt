@@ -23,9 +23,8 @@ pub fn already<K: Kind>(value: &K, command: &K::Command) -> Result<u32, Fail> {
 
 // The command is denied, with this number.
 pub fn denied<K: Kind>(value: &K, command: &K::Command) -> Result<u8, Fail> {
-    match value.apply(command) {
-        Err(denial) => Ok(u8::from(denial)),
-        Ok(Applied::Carried(_, _)) => Err(Fail::new("carried")),
-        Ok(Applied::Already(_)) => Err(Fail::new("carried already")),
-    }
+    let Err(denial) = value.apply(command) else {
+        return Err(Fail::new("not denied"));
+    };
+    Ok(u8::from(denial))
 }

@@ -118,9 +118,7 @@ fn prepare(attempt: u64) -> Result<Message<Once<Pool>>, Fail> {
 #[test]
 fn a_keeper_of_permits_is_cleaned(rt: HostRuntime) -> Result<(), Fail> {
     let store = JournalStore::<Once<Pool>>::new(rt.alloc(), 1, 2)?;
-    let Ok(mut keeper) = Keeper::new(0, GroupSize::Three, store) else {
-        return Err(Fail::new("no keeper"));
-    };
+    let mut keeper = Keeper::new(0, GroupSize::Three, store).map_err(|_| Fail::new("no keeper"))?;
     let mut scratch = [Entry {
         register: 0,
         record: Record::new(&Once::<Pool>::start()),

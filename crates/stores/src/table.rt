@@ -49,9 +49,10 @@ impl<V: Copy> Store for TableStore<V> {
     }
 
     fn put(&mut self, register: u8, new: &Record<V>) -> Result<(), StoreRefusal> {
-        let Some(record) = self.table.get_mut(usize::from(register)) else {
-            return Err(StoreRefusal::UnknownRegister);
-        };
+        let record = self
+            .table
+            .get_mut(usize::from(register))
+            .ok_or(StoreRefusal::UnknownRegister)?;
         *record = *new;
         Ok(())
     }
