@@ -5,7 +5,7 @@ ghost use Rattle.std.specs.Prelude.{◌≡◌, ◌≤◌, length};
 pub const LONGEST: usize = 1024;
 
 // The bytes written so far and how many they are. What is written past the longest line is not kept,
-// and the count then stays one above it. An array and no Vec: a keeper has its memory fixed, none on the heap.
+// and the count then stays one above it. An array and no Vec: the memory is fixed, none on the heap.
 #[derive(Clone, Copy)]
 pub struct Buffer {
     pub bytes: [u8; 1024],
