@@ -38,7 +38,7 @@ pub(crate) fn field_end(line: &[u8], from: usize) -> usize
     }
 }
 
-// What these bytes of a field are.
+// What these bytes of a field are. A match, as each of the three kinds is named.
 fn kind_of(bytes: &[u8]) -> TokenKind
     ensures { Says bytes.now result }
 {

@@ -24,7 +24,8 @@ impl Token<'_> {
         }
     }
 
-    // What the field `r` or `w` names.
+    // What the field `r` or `w` names. Not a TryFrom of Access: it would stand beside Access, where
+    // nothing is known of letters.
     fn access_named(self) -> Result<Access, FaultKind>
         ensures { result ≡ access_named self.entry.kind }
     {

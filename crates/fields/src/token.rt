@@ -2,7 +2,8 @@
 ghost use Rattle.fields.specs.Tokens.{Says};
 ghost use Rattle.fields.specs.Props.{says_prop};
 
-// A field is a number, one byte that is no digit, or neither.
+// A field is a number, one byte that is no digit, or neither. Not an Option of the first two: what reads a
+// token would match it no more plainly.
 #[derive(Clone, Copy)]
 pub enum TokenKind {
     Letter(u8),

@@ -14,7 +14,8 @@ pub struct Permit {
     ghost within: { number ≤ 32 },
 }
 
-// A flat, by its number: 1 to 200.
+// A flat, by its number: 1 to 200. Not one type with its top as a parameter: then a flat and a permit
+// would be told apart only by how many there are.
 #[derive(Clone, Copy, PartialEq, Eq, Debug)]
 pub struct Flat {
     pub number: u8,
@@ -22,7 +23,8 @@ pub struct Flat {
     ghost within: { number ≤ 200 },
 }
 
-// Who holds permits 1 to 32, in their order, and the permit that was granted last.
+// Who holds permits 1 to 32, in their order, and the permit that was granted last. An array and no Vec:
+// the memory is fixed, none on the heap.
 #[derive(Clone, Copy)]
 pub struct Pool {
     pub holders: [Option<Flat>; 32],

@@ -14,7 +14,8 @@ fn holds<V: Copy>(entries: &[Entry<V>], register: u8) -> bool
 
 // Writes the latest entry of each register into the end of `own`, in the order of putting, and says
 // where they begin. It goes from the newest entry to the oldest, so the first that it meets of a
-// register is the latest; filling `own` from its end keeps their order.
+// register is the latest; filling `own` from its end keeps their order. It answers a place and no slice:
+// a contract on a slice of what is lent for changing would be no plainer.
 fn gather<V: Copy>(entries: &[Entry<V>], own: &mut [Entry<V>]) -> usize
     requires { All (λ e. e.register < length own.old) entries.now }
     ensures within { result ≤ length own.new }

@@ -55,6 +55,7 @@ impl<V: Copy> Store for JournalStore<V> {
         }
     }
 
+    // The trait's clauses again: a method with a clause of its own has only those written here.
     fn put(&mut self, register: u8, new: &Record<V>) -> Result<(), StoreRefusal>
         ensures answers { result ≡ put_answer (journal_records self.old) (journal_open self.old) register }
         ensures replaces_that_record_only { journal_records self.new ≡ records_after_put (is_ok result) (journal_records self.old) register new.now }
