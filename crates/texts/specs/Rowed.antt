@@ -11,6 +11,7 @@ use Rattle.fields.specs.Buffers.{content, Put}
 use Rattle.fields.specs.Forms.{Item, Form, end, field, Fit, ◌▷◌}
 use Rattle.fields.specs.Readers.{Went, FaultAt}
 use Rattle.fields.proofs.Joins.{fit_join, then_went, then_fault, first_fault}
+use Rattle.fields.proofs.Writes.{wrote_none}
 use Rattle.texts.specs.Rows.{times}
 
 nothing_after : (form : Form) → form ▷ (λ is. end) ≡ form
@@ -89,7 +90,4 @@ joined_set items xs i x l = flat_map_more items [] (take i xs) x ∙ ap (flat_ma
 
 -- nothing is written
 pub put_none : (b : Buffer) → Put [] b b
-put_none b =
-    let within = b.within in
-    let whole = b.whole in
-    record { wrote = record { counted = omega arith; kept = sym (ap (take 1024) (append-nil (content b)) ∙ take_all 1024 (content b) (omega (arith, length-take b.count b.bytes))) } }
+put_none b = record { wrote = wrote_none b }
