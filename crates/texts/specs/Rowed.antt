@@ -1,13 +1,13 @@
 -- Pieces in a row: their forms, their faults, and that a row has one reading.
 use Rattle.std.specs.Prelude.{◌≡◌, ℕ, zero, suc, ◌+◌, ◌-◌, ◌<◌, List, [], ◌∷◌, ◌++◌, length, take, slice_index_or, slice_set, refl}
-use Rattle.std.proofs.Common.{length-take, append-nil, append_assoc, sym, ap, subst, ◌∙◌, zero-add, arith}
+use Rattle.std.proofs.Common.{append_assoc, sym, ap, subst, ◌∙◌, zero-add, arith}
 use Rattle.std.proofs.Math.Path.{fun_ext}
 use Rattle.std.specs.List.{flat_map}
-use Rattle.std.proofs.lemmas.List.{take_all, take_more, take_more_set, flat_map_more}
+use Rattle.std.proofs.lemmas.List.{take_more, take_more_set, flat_map_more}
 use Rattle.fields.specs.declared.buffer.Buffer.{Buffer}
 use Rattle.fields.specs.declared.fault.Fault.{Fault}
 use Rattle.fields.specs.declared.reader.Reader.{Reader}
-use Rattle.fields.specs.Buffers.{content, Put}
+use Rattle.fields.specs.Buffers.{Put}
 use Rattle.fields.specs.Forms.{Item, Form, end, field, Fit, ◌▷◌}
 use Rattle.fields.specs.Readers.{Went, FaultAt}
 use Rattle.fields.proofs.Joins.{fit_join, then_went, then_fault, first_fault}
