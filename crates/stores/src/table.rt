@@ -57,8 +57,8 @@ impl<V: Copy> Store for TableStore<V> {
         Ok(())
     }
 
+    // The trait's clause again: a method with a clause of its own has only those written here.
     fn clean(&mut self, scratch: &mut [Entry<V>]) -> Result<(), StoreRefusal>
-        // The trait's clause again: a method with a clause of its own has only those written here.
         ensures cleaned { Cleaned table_records table_open table_needed TableCleans (length scratch.old) self.old self.new result }
         ensures leaves_the_scratch_as_it_was { scratch.new ≡ scratch.old }
     {
