@@ -81,19 +81,20 @@ pub record FirstEnds (line : List ℕ) (end : ℕ) : Type 0 where
   pub mark : Mark (slice_index line end)
   pub plain : (i : ℕ) → i < end → Mark (slice_index line i) → ⊥
 
+-- a line is not framed
+abbrev pub Unframed : List ℕ → Fault → Type 0
+Unframed line e = (Framed line → ⊥) × (e.kind ≡ Frame) × (e.at ≡ 0)
+
 -- where the first field of a line ends; a line that is not framed is refused
 abbrev pub Opening : List ℕ → Result ℕ Fault → Type 0
 Opening line (Ok end) = FirstEnds line end
-Opening line (Err e) = (Framed line → ⊥) × (e.kind ≡ Frame) × (e.at ≡ 0)
+Opening line (Err e) = Unframed line e
 
 -- a framed line begins with the field of the token t, and the reader p stands behind it
 pub record Opened (line : List ℕ) (t : Token) (p : Reader) : Type 0 where
   pub framed : Framed line
   pub same_line : p.line.now ≡ line
   pub is : line ≡ t.bytes.now ++ rest p
+  pub offset : t.at ≡ 0
   pub on : p.at ≡ length t.bytes.now
   pub plain : Plain t.bytes.now
-
--- a line is not framed
-abbrev pub Unframed : List ℕ → Fault → Type 0
-Unframed line e = (Framed line → ⊥) × (e.kind ≡ Frame) × (e.at ≡ 0)

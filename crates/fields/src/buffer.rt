@@ -6,6 +6,7 @@ pub const LONGEST: usize = 1024;
 
 // The bytes written so far and how many they are. What is written past the longest line is not kept,
 // and the count then stays one above it. An array and no Vec: the memory is fixed, none on the heap.
+// No ArrayVec either: it cannot be copied, and counts nothing past its end.
 #[derive(Clone, Copy)]
 pub struct Buffer {
     pub bytes: [u8; 1024],

@@ -20,7 +20,8 @@ fn framed(line: &[u8]) -> bool
     }
 }
 
-// Where the field that begins at `from` ends: at the next tab or line feed.
+// Where the field that begins at `from` ends: at the next tab or line feed. A place and no slice goes in, as
+// a place comes out.
 pub(crate) fn field_end(line: &[u8], from: usize) -> usize
     requires { from ≤ length line.now }
     ensures after { from ≤ result }
@@ -28,14 +29,11 @@ pub(crate) fn field_end(line: &[u8], from: usize) -> usize
     ensures plain { (i : ℕ) → from ≤ i → i < result → Mark (slice_index line.now i) → ⊥ }
     ensures stops { result < length line.now → Mark (slice_index line.now result) }
 {
-    // A match and no map_or: the two ends are proved one by one.
-    match line[from..]
+    let rest = &line[from..];
+    from + rest
         .iter()
         .position(|b| matches!(*b, b'\t' | b'\n'))
-    {
-        Some(n) => from + n,
-        None => line.len(),
-    }
+        .unwrap_or(rest.len())
 }
 
 // What these bytes of a field are. A match, as each of the three kinds is named.

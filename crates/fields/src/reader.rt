@@ -2,7 +2,8 @@
 ghost use Rattle.std.specs.Prelude.{◌≡◌, ℕ, ◌+◌, ◌-◌, ◌<◌, length, ◌≢◌, slice_index};
 ghost use Rattle.fields.specs.Cuts.{Mark};
 
-// The ghost fields say that the line ends with its only line feed, so a reader never runs past it.
+// The ghost fields say that the line ends with its only line feed, so a reader never runs past it. A place
+// and not the rest of the line: a fault is told by its offset.
 #[derive(Clone, Copy)]
 pub struct Reader<'a> {
     pub line: &'a [u8],

@@ -23,13 +23,16 @@ impl Token<'_> {
             _ => Err(FaultKind::Form),
         }
     }
+}
 
-    // What the field `r` or `w` names. Not a TryFrom of Access: it would stand beside Access, where
-    // nothing is known of letters.
-    fn access_named(self) -> Result<Access, FaultKind>
-        ensures { result ≡ access_named self.entry.kind }
-    {
-        match self.kind {
+// What a field `r` or `w` names.
+impl TryFrom<TokenKind> for Access {
+    type Error = FaultKind;
+
+    ghost try_from_gives = { λ kind r. r ≡ access_named kind };
+
+    fn try_from(kind: TokenKind) -> Result<Access, FaultKind> {
+        match kind {
             TokenKind::Letter(b'r') => Ok(Access::Read),
             TokenKind::Letter(b'w') => Ok(Access::Write),
             _ => Err(FaultKind::Form),
@@ -82,7 +85,7 @@ impl<'a> Reader<'a> {
     pub fn access(&mut self) -> Result<Access, Fault>
         ensures { Reading (one access_shape) access_items self.old self.new result }
     {
-        self.field(Token::access_named)
+        self.field(|token| Access::try_from(token.kind))
     }
 
     // The line feed has to follow the last field.

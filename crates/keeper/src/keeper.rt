@@ -65,7 +65,8 @@ impl<S: Store> Keeper<S> {
         }
     }
 
-    // Makes room in the store. It is the caller's to say when, since it takes time and a scratch.
+    // Makes room in the store. It is the caller's to say when, since it takes time and a scratch. The
+    // store's ghost members stand one by one, as in the trait.
     pub fn clean(&mut self, scratch: &mut [Entry<S::Value>]) -> Result<(), StoreRefusal>
         ensures cleaned { Cleaned S.Store.records S.Store.opened S.Store.needed S.Store.cleans (length scratch.old) self.old.store self.new.store result }
         ensures keeps_its_number { self.new.id ≡ self.old.id }

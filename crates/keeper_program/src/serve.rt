@@ -36,7 +36,8 @@ impl<T: Text, S: Store<Value = T>, W: Write> Served<S, W> {
 }
 
 // Bytes that come in are written to it: it answers each line that ends among them, and sends the
-// replies out before it takes more.
+// replies out before it takes more. An error ends the program: the library's writers try an interrupted
+// write again by themselves.
 impl<T: Text, S: Store<Value = T>, W: Write> Write for Served<S, W> {
     fn write(&mut self, bytes: &[u8]) -> io::Result<usize> {
         for &byte in bytes {

@@ -1,8 +1,11 @@
 -- Two permits, flats or pools are the same where their numbers are: a range has one proof.
-use Rattle.std.proofs.Common.{◌≡◌, ℕ, ◌+◌, ◌<◌, ◌≤◌, length, Option, arith}
+use Rattle.std.proofs.Common.{◌≡◌, ℕ, ◌+◌, ◌<◌, ◌≤◌, length, Ok, Option, Result, arith}
 use mathlib.Core.HLevel.{is_prop→PathP}
 use native.Mathlib.Decide.{dec_le}
 use native.Mathlib.Nat.{ℕ_set}
+use Rattle.protocol.specs.declared.kind.Applied.{Applied}
+use Rattle.protocol.specs.declared.kind.Applied.TheVariants.{Carried}
+use Rattle.protocol.specs.declared.kind.Denial.{Denial}
 use Rattle.protocol.proofs.Same.{from_path, within_path}
 use Rattle.kinds.specs.declared.pool.Flat.{Flat}
 use Rattle.kinds.specs.declared.pool.Permit.{Permit}
@@ -37,3 +40,7 @@ next_is q n low top (no h) = same_permit q _ (top (omega arith))
 pub is_next : (q : Permit) (last : Option Permit) → (number_or_zero last < 32 → q.number ≡ number_or_zero last + 1) → (32 ≤ number_or_zero last → q.number ≡ 1) → q ≡ permit_after last
 unfolding permit_after
 is_next q last low top = next_is q (number_or_zero last) low top (dec_le (number_or_zero last + 1) 32)
+
+-- what is carried is the same where the pool and the answer are
+pub same_carried : (a b : Pool) (m n : ℕ) → a ≡ b → m ≡ n → ◌≡◌ {A = Result (Applied Pool) Denial} (Ok (Carried a m)) (Ok (Carried b n))
+same_carried a b m n e p = cc

@@ -48,6 +48,7 @@ impl From<MessageKind> for u8 {
     }
 }
 
+// The letters again, the other way: as cases they read plainer than a search among the five.
 impl TryFrom<u8> for MessageKind {
     type Error = UnknownLetter;
 

@@ -47,7 +47,7 @@ noted s w answer = record {
 }
 
 -- a write that is carried: the value below after it, and the writer's new entry
-abbrev carried_by : {K : Type 0} → Once K → Writer → K → ℕ → Result (Applied (Once K)) Denial
+abbrev pub carried_by : {K : Type 0} → Once K → Writer → K → ℕ → Result (Applied (Once K)) Denial
 carried_by v w below answer = Ok (Carried (record { sessions = noted v.sessions w answer; below = below }) answer)
 
 -- what comes of what came below: unless that was denied, the write is carried, with the answer from below

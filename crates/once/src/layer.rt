@@ -7,8 +7,8 @@ pub mod theorems;
 
 // The number of a hub's last write that was carried, and the answer it was given; 0 and 0 before the
 // first.
-// No Option in the table: an entry may have the number 0, so None would say a second time that no
-// write counted yet.
+// No Option in the table: an entry with the number 0 may hold any answer, and an Option of one with a
+// number from 1 on could not.
 #[derive(Clone, Copy)]
 pub struct Session {
     pub number: u64,

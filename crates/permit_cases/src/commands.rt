@@ -21,10 +21,7 @@ pub fn already<K: Kind>(value: &K, command: &K::Command) -> Result<u32, Fail> {
     }
 }
 
-// The command is denied, with this number.
-pub fn denied<K: Kind>(value: &K, command: &K::Command) -> Result<u8, Fail> {
-    let Err(denial) = value.apply(command) else {
-        return Err(Fail::new("not denied"));
-    };
-    Ok(u8::from(denial))
+// The number with which the command is denied, if it is.
+pub fn denied<K: Kind>(value: &K, command: &K::Command) -> Option<u8> {
+    value.apply(command).err().map(u8::from)
 }

@@ -25,7 +25,7 @@ fn full(rt: &impl Abort) -> Result<Pool, Fail> {
 #[test]
 fn a_full_pool_grants_none(rt: HostRuntime) -> Result<(), Fail> {
     let pool = full(&rt)?;
-    assert_eq!(rt; denied(&pool, &take(200))?, 2);
+    assert_eq!(rt; denied(&pool, &take(200)), Some(2));
     Ok(())
 }
 
@@ -33,12 +33,12 @@ fn a_full_pool_grants_none(rt: HostRuntime) -> Result<(), Fail> {
 fn a_pool_is_drained(rt: HostRuntime) -> Result<(), Fail> {
     let mut pool = full(&rt)?;
     for flat in 1..33 {
-        assert_eq!(rt; denied(&pool, &give_back(flat, flat + 1))?, 3);
+        assert_eq!(rt; denied(&pool, &give_back(flat, flat + 1)), Some(3));
         assert_eq!(rt;
             carried(&mut pool, &give_back(flat, flat))?,
             32 - flat as u32
         );
-        assert_eq!(rt; denied(&pool, &give_back(flat, flat))?, 3);
+        assert_eq!(rt; denied(&pool, &give_back(flat, flat)), Some(3));
     }
     assert_eq!(rt; carried(&mut pool, &take(7))?, 1);
     Ok(())
@@ -61,11 +61,11 @@ fn the_search_goes_round(rt: HostRuntime) -> Result<(), Fail> {
 #[test]
 fn commands_have_their_ranges(rt: HostRuntime) -> Result<(), Fail> {
     let pool = full(&rt)?;
-    assert_eq!(rt; denied(&pool, &take(0))?, 1);
-    assert_eq!(rt; denied(&pool, &take(201))?, 1);
-    assert_eq!(rt; denied(&pool, &give_back(0, 1))?, 1);
-    assert_eq!(rt; denied(&pool, &give_back(33, 1))?, 1);
-    assert_eq!(rt; denied(&pool, &give_back(1, 0))?, 1);
-    assert_eq!(rt; denied(&pool, &give_back(1, 201))?, 1);
+    assert_eq!(rt; denied(&pool, &take(0)), Some(1));
+    assert_eq!(rt; denied(&pool, &take(201)), Some(1));
+    assert_eq!(rt; denied(&pool, &give_back(0, 1)), Some(1));
+    assert_eq!(rt; denied(&pool, &give_back(33, 1)), Some(1));
+    assert_eq!(rt; denied(&pool, &give_back(1, 0)), Some(1));
+    assert_eq!(rt; denied(&pool, &give_back(1, 201)), Some(1));
     Ok(())
 }

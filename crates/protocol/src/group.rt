@@ -12,7 +12,7 @@ pub enum GroupSize {
     Seven = 7,
 }
 
-// The group of so many keepers.
+// The group of so many keepers. Three cases again: to look for the one with this number is no plainer.
 impl TryFrom<u8> for GroupSize {
     type Error = OutOfRange;
 

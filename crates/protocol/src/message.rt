@@ -34,7 +34,7 @@ pub struct KeeperId {
 
 // The number that a keeper has promised, and whether it was raised for the very message that it
 // answers: then a round with that number was granted to the asking attempt.
-// A flag and not two cases: the number is told, and compared, whether it was raised or not.
+// A flag and not two cases: the number is told whether it was raised or not, so both would hold it.
 #[derive(Clone, Copy)]
 pub struct Promise {
     pub raised: bool,

@@ -35,7 +35,8 @@ pub trait Store {
         ensures replaces_that_record_only { records self.new ≡ records_after_put (is_ok result) (records self.old) register new.now }
         ensures a_refusal_changes_nothing { is_ok result ≡ false → self.new ≡ self.old };
 
-    // Makes room. It may open a shut store.
+    // Makes room. It may open a shut store. The ghost members stand one by one in the clause: what it cites
+    // is said of any store, below this trait.
     fn clean(&mut self, scratch: &mut [Entry<Self::Value>]) -> Result<(), StoreRefusal>
         ensures { Cleaned records opened needed cleans (length scratch.old) self.old self.new result };
 }

@@ -1,9 +1,9 @@
--- Pieces in a row: their forms, their faults, and that a row has one reading.
-use Rattle.std.specs.Prelude.{◌≡◌, ℕ, zero, suc, ◌+◌, ◌-◌, ◌<◌, List, [], ◌∷◌, ◌++◌, length, take, slice_index_or, slice_set, refl}
-use Rattle.std.proofs.Common.{append_assoc, sym, ap, subst, ◌∙◌, zero-add, arith}
+-- Values in a row: their forms, their faults, and that a row has one reading.
+use Rattle.std.specs.Prelude.{◌≡◌, ℕ, zero, suc, ◌+◌, ◌-◌, ◌<◌, ◌≤◌, List, [], ◌∷◌, ◌++◌, length, take, slice_index_or, slice_set, refl}
+use Rattle.std.proofs.Common.{append_assoc, sym, ap, subst, ◌∙◌, add-zero, zero-add, arith}
 use Rattle.std.proofs.Math.Path.{fun_ext}
 use Rattle.std.specs.List.{flat_map}
-use Rattle.std.proofs.lemmas.List.{take_more, take_more_set, flat_map_more}
+use Rattle.std.proofs.lemmas.List.{take_all, take_more, take_more_set, flat_map_more}
 use Rattle.fields.specs.declared.buffer.Buffer.{Buffer}
 use Rattle.fields.specs.declared.fault.Fault.{Fault}
 use Rattle.fields.specs.declared.reader.Reader.{Reader}
@@ -33,12 +33,16 @@ module _ (form : Form) where
   times_one : times 1 form ≡ form
   times_one = nothing_after form
 
-  -- one piece more
+  -- none yet
+  pub went_none : (p : Reader) → Went p p (times 0 form) []
+  went_none p = record { same_line = refl; there = refl; on = sym (add-zero p.at); fit = tt }
+
+  -- one value more
   pub went_more : (p q r : Reader) (n : ℕ) (is js : List Item) → Went p q (times n form) is → Went q r form js → Went p r (times (n + 1) form) (is ++ js)
   went_more p q r n is js g h =
       subst (λ f. Went p r f (is ++ js)) (sym (times_add n 1 ∙ ap (λ f. times n form ▷ (λ is. f)) times_one)) (then_went p q r (times n form) form is js g h)
 
-  -- a piece that is at fault, behind some that are not
+  -- a value that is at fault, behind some that are not
   pub went_amiss : (p q r : Reader) (n all : ℕ) (is : List Item) (e : Fault) → n < all → Went p q (times n form) is → FaultAt q r form e → FaultAt p r (times all form) e
   went_amiss p q r n all is e l g h =
       let more : all ≡ n + suc (all - n - 1) = omega arith in
@@ -81,7 +85,7 @@ module _ {X : Type 0} (form : Form) (items : X → List Item) (fits : (x : X) �
       let z : x ∷ xs ≡ y ∷ ys = cc in
       (z, q.1)
 
--- a row so far, and one piece more
+-- a row so far, and one value more
 pub joined_take : {X : Type 0} (items : X → List Item) (xs : List X) (i : ℕ) (x : X) → i < length xs → x ≡ slice_index_or xs i x → flat_map items (take i xs) ++ items x ≡ flat_map items (take (i + 1) xs)
 joined_take items xs i x l e = flat_map_more items [] (take i xs) x ∙ ap (flat_map items) (ap (λ y. take i xs ++ (y ∷ [])) e ∙ sym (take_more xs i x l))
 
@@ -91,3 +95,12 @@ joined_set items xs i x l = flat_map_more items [] (take i xs) x ∙ ap (flat_ma
 -- nothing is written
 pub put_none : (b : Buffer) → Put [] b b
 put_none b = record { wrote = wrote_none b }
+
+-- a row so far is the row, where there are no more
+pub joined_all : {X : Type 0} (items : X → List Item) (xs : List X) (i : ℕ) → length xs ≤ i → flat_map items (take i xs) ≡ flat_map items xs
+joined_all items xs i l = ap (flat_map items) (take_all i xs l)
+
+-- all values are read
+pub went_all : {X : Type 0} (form : Form) (items : X → List Item) (p q : Reader) (row : List X) (i n : ℕ) → i ≡ n → length row ≡ n → Went p q (times i form) (flat_map items (take i row)) → Went p q (times n form) (flat_map items row)
+went_all form items p q row i n e l g =
+    subst (λ k. Went p q (times k form) (flat_map items row)) e (subst (Went p q (times i form)) (joined_all items row i (omega arith)) g)

@@ -1,4 +1,4 @@
--- The form of pieces in a row.
+-- The form of values in a row.
 use Rattle.std.specs.Prelude.{ℕ, zero, suc}
 use Rattle.fields.specs.Forms.{Form, end, ◌▷◌}
 

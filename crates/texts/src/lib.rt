@@ -1,4 +1,4 @@
-// The trait of values that travel in lines, and the text forms of the kinds.
+// The trait of values that travel in lines, and the text forms of the kinds and of the parts of messages.
 #![tactic(auto)]
 
 pub mod meter;

@@ -33,7 +33,7 @@ impl Text for Option<Flat> {
     }
 }
 
-// Not one impl with that of a holder: it would need a trait of what has a number.
+// Not one impl with that of a holder: a trait of what has a number would serve these two alone.
 impl Text for Option<Permit> {
     ghost form = { last_form };
 

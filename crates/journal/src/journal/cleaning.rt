@@ -33,7 +33,7 @@ fn gather<V: Copy>(entries: &[Entry<V>], own: &mut [Entry<V>]) -> usize
 }
 
 // Puts other entries in the stead of those that were there. Not extend_from_slice: it does not
-// promise to take no memory.
+// say that the capacity stays.
 fn refill<V: Copy>(entries: &mut Vec<Entry<V>>, kept: &[Entry<V>])
     requires { length kept.now ≤ vec_capacity entries.old }
     ensures items { entries.new.items ≡ kept.now }

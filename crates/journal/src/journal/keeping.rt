@@ -72,7 +72,8 @@ impl<V: Copy> Store for JournalStore<V> {
         Ok(())
     }
 
-    // There are more places than registers, so a cleaning always opens the store.
+    // There are more places than registers, so a cleaning always opens the store. Its first clause is the
+    // trait's again: a method with a clause of its own has only those written here.
     fn clean(&mut self, scratch: &mut [Entry<V>]) -> Result<(), StoreRefusal>
         ensures cleaned { Cleaned journal_records journal_open journal_needed JournalCleans (length scratch.old) self.old self.new result }
         ensures leaves_a_free_scratch { FreeScratch scratch.old scratch.new result }

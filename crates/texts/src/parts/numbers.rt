@@ -1,4 +1,5 @@
-// A keeper's number and the number of a round are one number each.
+// A keeper's number and the number of a round are one number each. Not one impl over the range: each type
+// has its own field, and its own laws to show.
 ghost use Rattle.texts.specs.Parts.{keeper_form, keeper_items, number_form, number_items};
 ghost use Rattle.texts.specs.PartLaws.{keeper_fits, keeper_apart, number_fits, number_apart};
 
