@@ -8,7 +8,8 @@ use fields::buffer::Buffer;
 use fields::fault::Fault;
 use fields::reader::Reader;
 
-// A value that travels as some fields.
+// A value that travels as some fields. Its form and its items go one by one to the definitions that speak of
+// them, which stand below this trait.
 pub trait Text: Copy {
     // What the fields have to be.
     ghost form: { Form };
