@@ -1,4 +1,5 @@
-// A meter is one number, its total.
+// A meter is one number, its total. Not one impl with the other types of one number: each has its own
+// field, and its own laws to show.
 ghost use Rattle.texts.specs.Meters.{meter_form, meter_items};
 ghost use Rattle.kinds.proofs.Totals.{same_meter};
 ghost use Rattle.texts.specs.Laws.{meter_fits};

@@ -1,4 +1,5 @@
-// A head is its register, its hub and that hub's attempt.
+// A head is its register, its hub and that hub's attempt. Not one impl with a round: each of the two has
+// its own fields and ranges.
 ghost use Rattle.texts.specs.Parts.{head_form, head_items};
 ghost use Rattle.texts.specs.PartLaws.{head_fits, head_apart};
 
