@@ -56,10 +56,7 @@ impl<T: Text, S: Store<Value = T>, W: Write> Write for Served<S, W> {
 }
 
 // Serves the keeper until the input ends.
-pub fn serve<T: Text, S: Store<Value = T>>(
-    rt: &HostRuntime,
-    keeper: Keeper<S>,
-) -> io::Result<()>
+pub fn serve<T: Text, S: Store<Value = T>>(rt: &HostRuntime, keeper: Keeper<S>) -> io::Result<()>
 where
     S: Drop,
 {
