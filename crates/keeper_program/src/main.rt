@@ -4,7 +4,7 @@
 
 mod serve;
 
-use anyhow::anyhow;
+use anyhow::Context;
 use keeper::keeper::Keeper;
 use kinds::meter::Meter;
 use protocol::group::GroupSize;
@@ -13,9 +13,9 @@ use stores::table::TableStore;
 
 fn run(rt: &HostRuntime) -> anyhow::Result<()> {
     let store = TableStore::<Meter>::new(rt.alloc(), 4)?;
-    let keeper = Keeper::new(0, GroupSize::Three, store).map_err(|_| anyhow!(
-        "no keeper has this number"
-    ))?;
+    let keeper = Keeper::new(0, GroupSize::Three, store)
+        .ok()
+        .context("no keeper has this number")?;
     serve(rt, keeper)?;
     Ok(())
 }
