@@ -40,12 +40,12 @@ pub data Heard {S V : Type 0} (value : Form) (items : V → List Item) (records 
   replied : (m reply : Message V) → LineOf items m line → Received records opened before m (Ok reply) after → Heard value items records opened before line after (Ok reply)
 
 -- the buffer holds the line of the reply, or the refusal for this reason
-abbrev pub Says : {V : Type 0} → (V → List Item) → Result (Message V) Reason → Buffer → Type 0
-Says items (Ok reply) buffer = Replied (line_of items reply) buffer
-Says items (Err reason) buffer = Filled (refusal_line (number_of reason)) buffer
+abbrev pub Reports : {V : Type 0} → (V → List Item) → Result (Message V) Reason → Buffer → Type 0
+Reports items (Ok reply) buffer = Replied (line_of items reply) buffer
+Reports items (Err reason) buffer = Filled (refusal_line (number_of reason)) buffer
 
--- a keeper answered a line: the buffer says what it made of it
+-- a keeper answered a line: the buffer reports what it made of it
 pub record Answered {S V : Type 0} (value : Form) (items : V → List Item) (records : S → List (Record V)) (opened : S → Bool) (before : Keeper S V) (line : List ℕ) (after : Keeper S V) (buffer : Buffer) : Type 0 where
   pub outcome : Result (Message V) Reason
   pub heard : Heard value items records opened before line after outcome
-  pub says : Says items outcome buffer
+  pub reports : Reports items outcome buffer

@@ -6,24 +6,24 @@ use Rattle.fields.specs.Forms.{Item, num, Form, range, one, ◌▷◌}
 use Rattle.kinds.specs.declared.pool.Flat.{Flat}
 use Rattle.kinds.specs.declared.pool.Permit.{Permit}
 use Rattle.kinds.specs.declared.pool.Pool.{Pool}
-use Rattle.kinds.specs.Pools.{number_or_zero}
 use Rattle.texts.specs.Rows.{times}
+
+-- the number of what there is, 0 where there is none
+abbrev pub or_zero : {X : Type 0} → (X → ℕ) → Option X → ℕ
+or_zero number (Some x) = number x
+or_zero number None = 0
 
 abbrev pub holder_form : Form
 holder_form = one (range 0 200)
 
-abbrev pub holder_number : Option Flat → ℕ
-holder_number (Some f) = f.number
-holder_number None = 0
-
 abbrev pub holder_items : Option Flat → List Item
-holder_items holder = num (holder_number holder) ∷ []
+holder_items holder = num (or_zero (λ (flat : Flat). flat.number) holder) ∷ []
 
 abbrev pub last_form : Form
 last_form = one (range 0 32)
 
 abbrev pub last_items : Option Permit → List Item
-last_items last = num (number_or_zero last) ∷ []
+last_items last = num (or_zero (λ (permit : Permit). permit.number) last) ∷ []
 
 unfoldable pub pool_form : Form
 pool_form = times 32 holder_form ▷ (λ is. last_form)
