@@ -85,7 +85,7 @@ module _ (p q : Reader) where
   }
 
   -- a field that is wrong, which the reader does not pass
-  wrong_at : (s : Shape) (t : Token) (k : FaultKind) → Passed p q t → Wrong s t.bytes.now k → FaultAt p p (one s) (record { kind = k; at = p.at + 1 })
+  pub wrong_at : (s : Shape) (t : Token) (k : FaultKind) → Passed p q t → Wrong s t.bytes.now k → FaultAt p p (one s) (record { kind = k; at = p.at + 1 })
   wrong_at s t k h w = record { there = wrong t.bytes.now (rest q) h.next w refl; same_line = refl; in_front = sym (behind_tab w p.at) }
 
 -- the line feed comes where a field has to be

@@ -4,8 +4,12 @@ use fields::buffer::Buffer;
 use keeper::keeper::Keeper;
 use protocol::store::Store;
 use std::io;
-use std::io::{BufWriter, Write};
+use std::io::{BufReader, BufWriter, Write};
 use texts::text::Text;
+
+// How much of the input is taken at a time, whatever the library's copy asks for: a peer may write that much
+// before it has to read replies.
+const TAKEN_AT_ONCE: usize = 65536;
 
 // A keeper that is served with lines: the line that is coming in, the reply to the last one, and where
 // replies go.
@@ -66,6 +70,7 @@ where
         reply: Buffer::new(),
         output: BufWriter::new(rt.alloc(), rt.stdout())?,
     };
-    io::copy(&mut rt.stdin(), &mut served)?;
+    let mut input = BufReader::with_capacity(rt.alloc(), TAKEN_AT_ONCE, rt.stdin())?;
+    io::copy(&mut input, &mut served)?;
     served.end()
 }

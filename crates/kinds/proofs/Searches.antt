@@ -20,7 +20,7 @@ onward_by n p w e (yes h) = omega arith
 onward_by n p w e (no h) = omega arith
 
 -- the permit after one at a distance stands one further
-onward : (n : ℕ) (p : Option Permit) → number_or_zero p % 32 ≡ n % 32 → (permit_after p).number ≡ n % 32 + 1
+pub onward : (n : ℕ) (p : Option Permit) → number_or_zero p % 32 ≡ n % 32 → (permit_after p).number ≡ n % 32 + 1
 unfolding permit_after
 onward n p e = onward_by n (number_or_zero p) (in_32 p) e (dec_le (number_or_zero p + 1) 32)
 

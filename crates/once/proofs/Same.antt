@@ -10,7 +10,7 @@ use Rattle.once.specs.declared.layer.Sessions.{Sessions}
 use Rattle.once.specs.declared.layer.Writer.{Writer}
 use Rattle.once.specs.Layers.{writer_from, writer_of}
 
-same_session : (a b : Session) → a.number ≡ b.number → a.answer ≡ b.answer → a ≡ b
+pub same_session : (a b : Session) → a.number ≡ b.number → a.answer ≡ b.answer → a ≡ b
 same_session a b p q = λ i. record {
   number = p i;
   answer = q i;
