@@ -15,9 +15,9 @@ use Rattle.kinds.specs.declared.pool.Permit.{Permit}
 use Rattle.kinds.specs.declared.pool.Pool.{Pool}
 use Rattle.kinds.specs.declared.pool.PoolCommand.{PoolCommand}
 use Rattle.kinds.specs.declared.pool.PoolCommand.TheVariants.{Take, GiveBack}
-use Rattle.kinds.specs.Pools.{permit_numbered, flat_numbered, granting, granted, given_back, taking, giving_back, one_flat?, first_free, pool_applies, count_of, holder_of, holding, NearestFree}
+use Rattle.kinds.specs.Pools.{permit_numbered, flat_numbered, granting, granted, given_back, taking, giving_back, one_flat?, first_free, pool_applies, count_of, flat_of, holder_for, holder_of, holding, NearestFree}
 use Rattle.kinds.specs.Grants.{Grants, GivesBack, GivenBackBetween}
-use Rattle.kinds.proofs.Permits.{same_flat}
+use Rattle.kinds.proofs.Permits.{same_flat, says_it}
 use Rattle.kinds.proofs.Searches.{nearest}
 
 -- a command changed who holds one permit
@@ -25,7 +25,7 @@ record Changed (pool after : Pool) (permit : ℕ) (was is : Option Flat) : Type 
   from : 1 ≤ permit
   to : permit ≤ 32
   before : holding pool permit ≡ was
-  now : after.holders ≡ set pool.holders (permit - 1) is
+  now : after.holders ≡ set pool.holders (permit - 1) (holder_for is)
 
 abbrev Took : Pool → Pool → ℕ → ℕ → Type 0
 Took pool after flat permit = (f : Flat) × ((flat ≡ f.number) × Changed pool after permit None (Some f))
@@ -49,7 +49,7 @@ took_if pool after f a (Some p) near e =
       from = omega (arith, p.from);
       to = omega (arith, p.within);
       before = ap (holding pool) (sym n) ∙ near.1.free;
-      now = ap (λ (x : Pool). x.holders) (sym s) ∙ ap (λ k. set pool.holders (k - 1) (Some f)) n;
+      now = ap (λ (x : Pool). x.holders) (sym s) ∙ ap (λ k. set pool.holders (k - 1) (holder_for (Some f))) n;
     }
 took_if pool after f a None near e = absurd (cc)
 
@@ -79,10 +79,10 @@ gave pool after flat permit a e =
 module _ (pool after : Pool) (changed : ℕ) (was is : Option Flat) (c : Changed pool after changed was is) where
   -- the changed permit has its new holder, and any other keeps its own
   changes : holding after changed ≡ is
-  changes = let w = pool.whole in ap (λ l. get_or l (changed - 1) None) c.now ∙ get_or-set_same pool.holders (changed - 1) is None (omega arith)
+  changes = let w = pool.whole in ap (λ l. flat_of (get_or l (changed - 1) (holder_for None))) c.now ∙ ap flat_of (get_or-set_same pool.holders (changed - 1) (holder_for is) (holder_for None) (omega arith)) ∙ says_it is
 
   others_stay : (permit : ℕ) → 1 ≤ permit → permit ≢ changed → holding after permit ≡ holding pool permit
-  others_stay permit from apart = ap (λ l. get_or l (permit - 1) None) c.now ∙ get_or-set_other pool.holders (changed - 1) (permit - 1) is None (λ z. apart (omega arith))
+  others_stay permit from apart = ap (λ l. flat_of (get_or l (permit - 1) (holder_for None))) c.now ∙ ap flat_of (get_or-set_other pool.holders (changed - 1) (permit - 1) (holder_for is) (holder_for None) (λ z. apart (omega arith)))
 
 module _ (holder : Flat) (flat permit : ℕ) (named : flat ≡ holder.number) (from : 1 ≤ permit) where
   step : (pool after : Pool) (c : PoolCommand) (a : ℕ) → pool_applies pool c ≡ Ok (Carried after a) → holding pool permit ≡ Some holder → (c ≡ GiveBack permit flat) ⊎ (holding after permit ≡ Some holder)

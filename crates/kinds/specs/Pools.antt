@@ -1,6 +1,7 @@
 -- The pool's rules.
 use Rattle.std.specs.Prelude.{◌≡◌, ℕ, zero, suc, ◌+◌, ◌-◌, ◌%◌, ◌<◌, ◌≤◌, Bool, cond, List, get_or, replicate, Some, None, is_some, is_none, Ok, Err, Result, count_by, Option, ◌==◌, ◌≢◌, slice_index_or, slice_set, refl}
 use Rattle.std.specs.Option.{option_eq}
+use Rattle.std.specs.Result.{result_ok}
 use Rattle.std.proofs.Common.{length-set, ◌∙◌, arith}
 use Rattle.std.proofs.Math.Decide.{dec_le}
 use Rattle.protocol.specs.declared.kind.Applied.{Applied}
@@ -11,14 +12,11 @@ use Rattle.protocol.specs.declared.refusal.OutOfRange.{OutOfRange}
 use Rattle.protocol.specs.Ranges.{within?, made}
 use Rattle.protocol.specs.Refusals.{if_there}
 use Rattle.kinds.specs.declared.pool.Flat.{Flat}
+use Rattle.kinds.specs.declared.pool.Holder.{Holder}
 use Rattle.kinds.specs.declared.pool.Permit.{Permit}
 use Rattle.kinds.specs.declared.pool.Pool.{Pool}
 use Rattle.kinds.specs.declared.pool.PoolCommand.{PoolCommand}
 use Rattle.kinds.specs.declared.pool.PoolCommand.TheVariants.{Take, GiveBack}
-
--- in a new pool nobody holds any permit, and none was granted yet
-unfoldable pub new_pool : Pool
-new_pool = record { holders = replicate 32 None; last = None; whole = refl }
 
 -- the permits are numbered 1 to 32
 unfoldable pub permit_numbered : ℕ → Result Permit OutOfRange
@@ -27,6 +25,19 @@ permit_numbered n = made (λ h. record { number = n; from = h.0; within = h.1 })
 -- the flats are numbered 1 to 200
 unfoldable pub flat_numbered : ℕ → Result Flat OutOfRange
 flat_numbered n = made (λ h. record { number = n; from = h.0; within = h.1 }) (within? 1 200 n)
+
+-- the flat that a holder says, if any: the one with its number
+abbrev pub flat_of : Holder → Option Flat
+flat_of holder = result_ok (flat_numbered holder.number)
+
+-- the holder that says this
+abbrev pub holder_for : Option Flat → Holder
+holder_for (Some flat) = record { number = flat.number; within = flat.within }
+holder_for None = record { number = 0; within = omega arith }
+
+-- in a new pool nobody holds any permit, and none was granted yet
+unfoldable pub new_pool : Pool
+new_pool = record { holders = replicate 32 (holder_for None); last = None; whole = refl }
 
 -- the number of a permit, 0 where there is none
 abbrev pub number_or_zero : Option Permit → ℕ
@@ -43,7 +54,7 @@ permit_after p = next_in (number_or_zero p) (dec_le (number_or_zero p + 1) 32)
 
 -- who holds a permit
 abbrev pub holder_of : Pool → Permit → Option Flat
-holder_of pool p = slice_index_or pool.holders (p.number - 1) None
+holder_of pool p = flat_of (slice_index_or pool.holders (p.number - 1) (holder_for None))
 
 -- a permit is free where nobody holds it
 abbrev pub free? : Pool → Permit → Bool
@@ -63,9 +74,9 @@ first_free pool = search_after pool pool.last 32
 -- the pool in which this is the holder of the permit
 abbrev pub with_holder : Pool → Permit → Option Flat → Pool
 with_holder pool p holder = record {
-  holders = slice_set pool.holders (p.number - 1) holder;
+  holders = slice_set pool.holders (p.number - 1) (holder_for holder);
   last = pool.last;
-  whole = length-set pool.holders (p.number - 1) holder ∙ pool.whole;
+  whole = length-set pool.holders (p.number - 1) (holder_for holder) ∙ pool.whole;
 }
 
 -- the pool after a grant: this flat holds the permit, which is the one granted last
@@ -77,8 +88,8 @@ abbrev pub given_back : Pool → Permit → Pool
 given_back pool p = with_holder pool p None
 
 -- how many permits are held
-abbrev pub held_in : List (Option Flat) → ℕ
-held_in holders = count_by is_some holders
+abbrev pub held_in : List Holder → ℕ
+held_in holders = count_by (λ h. is_some (flat_of h)) holders
 
 abbrev pub count_of : Pool → ℕ
 count_of pool = held_in pool.holders
@@ -113,7 +124,7 @@ permit_at p distance = (p + distance - 1) % 32 + 1
 
 -- who holds the permit with this number
 abbrev pub holding : Pool → ℕ → Option Flat
-holding pool permit = get_or pool.holders (permit - 1) None
+holding pool permit = flat_of (get_or pool.holders (permit - 1) (holder_for None))
 
 -- a permit is free and stands at this distance after the last granted, and no nearer one is free
 pub record NearestAt (pool : Pool) (permit distance : ℕ) : Type 0 where

@@ -23,11 +23,19 @@ pub struct Flat {
     ghost within: { number ≤ 200 },
 }
 
+// Who holds a permit, in one byte: the number of the flat, 0 where nobody does. Not an Option<Flat>, which
+// takes two, as a journal may keep 65,536 pools; `flat` tells it as one.
+#[derive(Clone, Copy)]
+pub struct Holder {
+    pub number: u8,
+    ghost within: { number ≤ 200 },
+}
+
 // Who holds permits 1 to 32, in their order, and the permit that was granted last. An array and no Vec:
 // the memory is fixed, none on the heap.
 #[derive(Clone, Copy)]
 pub struct Pool {
-    pub holders: [Option<Flat>; 32],
+    pub holders: [Holder; 32],
     pub last: Option<Permit>,
     ghost whole: { length holders ≡ 32 },
 }

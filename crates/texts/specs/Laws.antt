@@ -1,6 +1,6 @@
 -- Meters and pools have their texts, and no two holders have the same.
 use Rattle.std.specs.Prelude.{◌≡◌, ◌≤◌, ◌^◌, ℕ, [], ◌∷◌, zero, suc, Some, None, Option, refl}
-use Rattle.std.proofs.Common.{ap, arith}
+use Rattle.std.proofs.Common.{sym, ap, ◌∙◌, arith}
 use Rattle.std.specs.Result.{result_ok}
 use Rattle.std.specs.List.{flat_map}
 use Rattle.protocol.specs.Ranges.{Within, within?, made}
@@ -8,12 +8,13 @@ use Rattle.fields.specs.Forms.{num, Fit, one, range}
 use Rattle.fields.proofs.Joins.{fit_join}
 use Rattle.kinds.specs.declared.meter.Meter.{Meter}
 use Rattle.kinds.specs.declared.pool.Flat.{Flat}
+use Rattle.kinds.specs.declared.pool.Holder.{Holder}
 use Rattle.kinds.specs.declared.pool.Permit.{Permit}
 use Rattle.kinds.specs.declared.pool.Pool.{Pool}
-use Rattle.kinds.specs.Pools.{flat_numbered, permit_numbered}
-use Rattle.kinds.proofs.Permits.{same_flat, same_permit}
+use Rattle.kinds.specs.Pools.{flat_numbered, flat_of, permit_numbered}
+use Rattle.kinds.proofs.Permits.{same_flat, same_holder, same_permit}
 use Rattle.texts.specs.Meters.{meter_form, meter_items}
-use Rattle.texts.specs.Pools.{or_zero, holder_form, holder_items, last_form, last_items, pool_form, pool_items}
+use Rattle.texts.specs.Pools.{or_zero, holder_form, holder_items, held_items, last_form, last_items, pool_form, pool_items}
 use Rattle.texts.specs.Rows.{times}
 use Rattle.texts.specs.Rowed.{row_fits}
 
@@ -48,6 +49,14 @@ pub flat_read : (n : ℕ) → n ≤ 200 → or_zero (λ (f : Flat). f.number) (r
 unfolding flat_numbered
 flat_read n l = option_read (λ (f : Flat). f.number) 200 (λ f. f.from) (λ f. f.within) n _ (λ h. refl) l (within? 1 200 n)
 
+pub held_fits : (h : Holder) → Fit holder_form (held_items h)
+held_fits h = holder_fits (flat_of h)
+
+pub held_apart : (h k : Holder) → held_items h ≡ held_items k → h ≡ k
+held_apart h k e =
+    let same = ap (or_zero (λ (f : Flat). f.number)) (holder_apart (flat_of h) (flat_of k) e) in
+    same_holder h k (sym (flat_read h.number h.within) ∙ same ∙ flat_read k.number k.within)
+
 pub last_fits : (h : Option Permit) → Fit last_form (last_items h)
 last_fits h = option_fits (λ (p : Permit). p.number) 32 (λ p. p.from) (λ p. p.within) (omega arith) h
 
@@ -61,6 +70,6 @@ permit_read n l = option_read (λ (p : Permit). p.number) 32 (λ p. p.from) (λ 
 pub pool_fits : (pool : Pool) → Fit pool_form (pool_items pool)
 unfolding pool_form
 pool_fits pool =
-    fit_join (times 32 holder_form) (λ is. one (range 0 32)) (flat_map holder_items pool.holders) (last_items pool.last)
-    (row_fits holder_form holder_items holder_fits pool.holders 32 pool.whole)
+    fit_join (times 32 holder_form) (λ is. one (range 0 32)) (flat_map held_items pool.holders) (last_items pool.last)
+    (row_fits holder_form held_items held_fits pool.holders 32 pool.whole)
     (last_fits pool.last)

@@ -4,8 +4,10 @@ use Rattle.std.specs.Prelude.{ℕ, List, [], ◌∷◌, ◌++◌, Some, None, Op
 use Rattle.std.specs.List.{flat_map}
 use Rattle.fields.specs.Forms.{Item, num, Form, range, one, ◌▷◌}
 use Rattle.kinds.specs.declared.pool.Flat.{Flat}
+use Rattle.kinds.specs.declared.pool.Holder.{Holder}
 use Rattle.kinds.specs.declared.pool.Permit.{Permit}
 use Rattle.kinds.specs.declared.pool.Pool.{Pool}
+use Rattle.kinds.specs.Pools.{flat_of}
 use Rattle.texts.specs.Rows.{times}
 
 -- the number of what there is, 0 where there is none
@@ -19,6 +21,9 @@ holder_form = one (range 0 200)
 abbrev pub holder_items : Option Flat → List Item
 holder_items holder = num (or_zero (λ (flat : Flat). flat.number) holder) ∷ []
 
+abbrev pub held_items : Holder → List Item
+held_items holder = holder_items (flat_of holder)
+
 abbrev pub last_form : Form
 last_form = one (range 0 32)
 
@@ -29,4 +34,4 @@ unfoldable pub pool_form : Form
 pool_form = times 32 holder_form ▷ (λ is. last_form)
 
 abbrev pub pool_items : Pool → List Item
-pool_items pool = flat_map holder_items pool.holders ++ last_items pool.last
+pool_items pool = flat_map held_items pool.holders ++ last_items pool.last

@@ -1,6 +1,6 @@
 // A pool is the numbers of the 32 holders, 0 for nobody, and of the permit granted last, 0 for none.
-ghost use Rattle.texts.specs.Pools.{holder_form, holder_items, last_form, last_items, pool_form, pool_items};
-ghost use Rattle.texts.specs.Laws.{holder_apart, holder_fits, last_apart, last_fits, pool_fits};
+ghost use Rattle.texts.specs.Pools.{holder_form, holder_items, held_items, last_form, last_items, pool_form, pool_items};
+ghost use Rattle.texts.specs.Laws.{holder_apart, holder_fits, held_apart, held_fits, last_apart, last_fits, pool_fits};
 ghost use Rattle.std.proofs.Common.{sym, ◌∙◌};
 ghost use Rattle.kinds.proofs.Permits.{same_pool};
 ghost use Rattle.texts.specs.Rowed.{row_same};
@@ -11,7 +11,7 @@ use fields::buffer::Buffer;
 use fields::fault::Fault;
 use fields::reader::Reader;
 use kinds::pool::holders::{MOST_FLAT, PERMITS};
-use kinds::pool::{Flat, Permit, Pool};
+use kinds::pool::{Flat, Holder, Permit, Pool};
 
 impl Text for Option<Flat> {
     ghost form = { holder_form };
@@ -30,6 +30,26 @@ impl Text for Option<Flat> {
 
     fn write(&self, buffer: &mut Buffer) {
         buffer.number(self.map_or(0, |flat| flat.number as u64));
+    }
+}
+
+// As the flat that holds, if one does.
+impl Text for Holder {
+    ghost form = { holder_form };
+
+    ghost items = { held_items };
+
+    ghost fits = { held_fits };
+
+    ghost apart = { held_apart };
+
+    fn read(reader: &mut Reader) -> Result<Holder, Fault> {
+        let flat = Option::<Flat>::read(reader)?;
+        Ok(flat.into())
+    }
+
+    fn write(&self, buffer: &mut Buffer) {
+        self.flat().write(buffer);
     }
 }
 
@@ -62,11 +82,11 @@ impl Text for Pool {
     ghost fits = { pool_fits };
 
     ghost apart = { λ v w e.
-        let p = row_same holder_form holder_items holder_fits holder_apart v.holders w.holders (last_items v.last) (last_items w.last) (v.whole ∙ sym w.whole) e in
+        let p = row_same holder_form held_items held_fits held_apart v.holders w.holders (last_items v.last) (last_items w.last) (v.whole ∙ sym w.whole) e in
         same_pool v w p.0 (last_apart v.last w.last p.1) };
 
     fn read(reader: &mut Reader) -> Result<Pool, Fault> {
-        let holders = read_row::<Option<Flat>, 32>(None, reader)?;
+        let holders = read_row::<Holder, 32>(Holder::from(None), reader)?;
         let last = Option::<Permit>::read(reader)?;
         Ok(Pool { holders, last })
     }

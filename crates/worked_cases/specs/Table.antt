@@ -12,7 +12,7 @@ use Rattle.kinds.specs.declared.pool.Permit.{Permit}
 use Rattle.kinds.specs.declared.pool.Pool.{Pool}
 use Rattle.kinds.specs.declared.pool.PoolCommand.{PoolCommand}
 use Rattle.kinds.specs.declared.pool.PoolCommand.TheVariants.{Take, GiveBack}
-use Rattle.kinds.specs.Pools.{new_pool, pool_applies}
+use Rattle.kinds.specs.Pools.{holder_for, new_pool, pool_applies}
 use Rattle.once.specs.declared.layer.Request.{Request}
 use Rattle.fields.specs.Forms.{num, letter}
 use Rattle.worked_cases.specs.Cases.{Case, of_pool, of_layer, of_keeper, carried, already, denied, replied, refused, after}
@@ -29,7 +29,7 @@ permit_32 = record { number = 32; from = omega arith; within = omega arith }
 
 -- flat 1 holds every permit but the fifth, and the last granted is 32
 abbrev only_5_free : Pool
-only_5_free = record { holders = slice_set (replicate 32 (Some flat_1)) 4 None; last = Some permit_32; whole = refl }
+only_5_free = record { holders = slice_set (replicate 32 (holder_for (Some flat_1))) 4 (holder_for None); last = Some permit_32; whole = refl }
 
 -- hub 3 asks with this number
 abbrev hub_3 : ℕ → PoolCommand → Request PoolCommand

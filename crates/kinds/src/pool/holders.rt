@@ -1,8 +1,8 @@
 // Permits and flats by number, and who holds which permit.
 ghost use Rattle.std.specs.Prelude.{◌≡◌};
-ghost use Rattle.kinds.specs.Pools.{permit_numbered, permit_after, flat_numbered, holder_of, free?, count_of};
+ghost use Rattle.kinds.specs.Pools.{permit_numbered, permit_after, flat_numbered, flat_of, holder_for, holder_of, free?, count_of};
 
-use crate::pool::{Flat, Permit, Pool};
+use crate::pool::{Flat, Holder, Permit, Pool};
 use protocol::refusal::OutOfRange;
 
 // How many permits there are, and the greatest number of a flat.
@@ -36,6 +36,26 @@ impl TryFrom<u8> for Flat {
     }
 }
 
+// The byte for nobody, or for the flat that holds.
+impl From<Option<Flat>> for Holder {
+    ghost from_gives = { λ flat holder. holder ≡ holder_for flat };
+
+    fn from(flat: Option<Flat>) -> Holder {
+        Holder {
+            number: flat.map_or(0, |flat| flat.number),
+        }
+    }
+}
+
+impl Holder {
+    // The flat that holds, if one does.
+    pub fn flat(self) -> Option<Flat>
+        ensures { result ≡ flat_of self }
+    {
+        Flat::try_from(self.number).ok()
+    }
+}
+
 impl Permit {
     // The permit after another, going round: after 32 comes 1, as it does where there is none before.
     pub(crate) fn after(permit: Option<Permit>) -> Permit
@@ -53,7 +73,7 @@ impl Pool {
     pub fn holder_of(&self, permit: Permit) -> Option<Flat>
         ensures { result ≡ holder_of self.now permit }
     {
-        self.holders[permit.number as usize - 1]
+        self.holders[permit.number as usize - 1].flat()
     }
 
     pub fn is_free(&self, permit: Permit) -> bool
@@ -66,6 +86,6 @@ impl Pool {
     pub fn held(&self) -> u32
         ensures { result ≡ count_of self.now }
     {
-        self.holders.iter().filter(|h| h.is_some()).count() as u32
+        self.holders.iter().filter(|h| h.flat().is_some()).count() as u32
     }
 }

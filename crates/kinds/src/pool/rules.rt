@@ -2,7 +2,7 @@
 ghost use Rattle.std.specs.Prelude.{◌≡◌};
 ghost use Rattle.kinds.specs.Pools.{new_pool, pool_applies, with_holder, taking, giving_back};
 
-use crate::pool::{Flat, Permit, Pool, PoolCommand};
+use crate::pool::{Flat, Holder, Permit, Pool, PoolCommand};
 use protocol::kind::{Applied, Denial, Kind};
 
 impl Pool {
@@ -11,7 +11,7 @@ impl Pool {
         ensures { result ≡ with_holder self.now permit holder }
     {
         let mut pool = *self;
-        pool.holders[permit.number as usize - 1] = holder;
+        pool.holders[permit.number as usize - 1] = holder.into();
         pool
     }
 
@@ -46,7 +46,7 @@ impl Kind for Pool {
 
     fn start() -> Pool {
         Pool {
-            holders: [None; 32],
+            holders: [Holder::from(None); 32],
             last: None,
         }
     }
