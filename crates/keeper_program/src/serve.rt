@@ -4,12 +4,11 @@ use fields::buffer::Buffer;
 use keeper::keeper::Keeper;
 use protocol::store::Store;
 use std::io;
-use std::io::{BufReader, BufWriter, Write};
+use std::io::{BufWriter, ErrorKind, Read, Write};
 use texts::text::Text;
 
-// How much of the input is taken at a time, whatever the library's copy asks for: a peer may write that much
-// before it has to read replies.
-const TAKEN_AT_ONCE: usize = 65536;
+// How much is read at a time.
+const CHUNK: usize = 65536;
 
 // A keeper that is served with lines: the line that is coming in, the reply to the last one, and where
 // replies go.
@@ -30,6 +29,18 @@ impl<T: Text, S: Store<Value = T>, W: Write> Served<S, W> {
         self.output.write_all(self.reply.kept())
     }
 
+    // Takes bytes that have come: answers each line that ends among them, and sends the replies out before
+    // more input is waited for.
+    fn take(&mut self, bytes: &[u8]) -> io::Result<()> {
+        for byte in bytes {
+            self.line.byte(*byte);
+            if *byte == b'\n' {
+                self.answer_line()?;
+            }
+        }
+        self.output.flush()
+    }
+
     // What stands behind the last line feed is a line without one, and is refused as such.
     fn end(&mut self) -> io::Result<()> {
         if self.line.count > 0 {
@@ -39,27 +50,8 @@ impl<T: Text, S: Store<Value = T>, W: Write> Served<S, W> {
     }
 }
 
-// Bytes that come in are written to it: it answers each line that ends among them, and sends the
-// replies out before it takes more. An error ends the program: the library's writers try an interrupted
-// write again by themselves.
-impl<T: Text, S: Store<Value = T>, W: Write> Write for Served<S, W> {
-    fn write(&mut self, bytes: &[u8]) -> io::Result<usize> {
-        for &byte in bytes {
-            self.line.byte(byte);
-            if byte == b'\n' {
-                self.answer_line()?;
-            }
-        }
-        self.output.flush()?;
-        Ok(bytes.len())
-    }
-
-    fn flush(&mut self) -> io::Result<()> {
-        self.output.flush()
-    }
-}
-
-// Serves the keeper until the input ends.
+// Serves the keeper until the input ends. Not the library's copy: that takes 8,192 bytes at a time, and with
+// replies behind each piece a peer that writes before it reads is held up sooner.
 pub fn serve<T: Text, S: Store<Value = T>>(rt: &HostRuntime, keeper: Keeper<S>) -> io::Result<()>
 where
     S: Drop,
@@ -70,7 +62,15 @@ where
         reply: Buffer::new(),
         output: BufWriter::new(rt.alloc(), rt.stdout())?,
     };
-    let mut input = BufReader::with_capacity(rt.alloc(), TAKEN_AT_ONCE, rt.stdin())?;
-    io::copy(&mut input, &mut served)?;
+    let mut input = rt.stdin();
+    let mut chunk = vec![in rt.alloc(); 0u8; CHUNK]?;
+    for _ in 0..u64::MAX {
+        match input.read(&mut chunk) {
+            Ok(0) => break,
+            Ok(n) => served.take(&chunk[..n])?,
+            Err(e) if e.kind() == ErrorKind::Interrupted => {}
+            Err(e) => return Err(e),
+        }
+    }
     served.end()
 }

@@ -23,8 +23,8 @@ pub struct Flat {
     ghost within: { number ≤ 200 },
 }
 
-// Who holds a permit, in one byte: the number of the flat, 0 where nobody does. Not an Option<Flat>, which
-// takes two, as a journal may keep 65,536 pools; `flat` tells it as one.
+// Who holds a permit, as a pool keeps it: the number of the flat, or 0 where nobody does. One byte, where an
+// Option<Flat> takes two, and a journal may keep 65,536 pools.
 #[derive(Clone, Copy)]
 pub struct Holder {
     pub number: u8,

@@ -15,12 +15,14 @@ abbrev pub or_zero : {X : Type 0} → (X → ℕ) → Option X → ℕ
 or_zero number (Some x) = number x
 or_zero number None = 0
 
+-- who holds a permit
 abbrev pub holder_form : Form
 holder_form = one (range 0 200)
 
 abbrev pub holder_items : Option Flat → List Item
 holder_items holder = num (or_zero (λ (flat : Flat). flat.number) holder) ∷ []
 
+-- what a pool keeps of a holder is written as the flat that it says
 abbrev pub held_items : Holder → List Item
 held_items holder = holder_items (flat_of holder)
 

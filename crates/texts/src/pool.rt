@@ -53,7 +53,7 @@ impl Text for Holder {
     }
 }
 
-// Not one impl with that of a holder: a trait of what has a number would serve these two alone.
+// Not one impl with that of a flat: a trait of what has a number would serve these two alone.
 impl Text for Option<Permit> {
     ghost form = { last_form };
 
